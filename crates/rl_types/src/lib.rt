@@ -1,0 +1,20 @@
+//! Plain data: messages and entries, what a channel takes and answers, what a run shows, and scripts.
+//!
+//! None of these types keeps a rule of its own: what holds of them is said by the calls that give them.
+#![tactic(auto)]
+
+mod channel;
+mod findings;
+mod messages;
+mod script;
+mod states;
+mod weights;
+
+pub use channel::{ChannelEvent, ChannelReply, Outcome, ReadReply, Verdict};
+pub use findings::{
+    Answer, Cause, ChannelFindings, ChannelView, ClientFindings, Findings, Record, Segment,
+};
+pub use messages::{Body, Entry, Given, Item};
+pub use script::{Command, Line, Script, ScriptCause};
+pub use states::{ChanState, ConnState};
+pub use weights::weight;
