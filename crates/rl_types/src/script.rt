@@ -1,6 +1,6 @@
 //! A script, line by line. (This project's own.)
 use crate::Item;
-use rl_ids::{Copied, List, NoMemory, Text};
+use rl_ids::{ChannelSerial, Copied, List, NoMemory, Text};
 use std::alloc::Global;
 
 /// Why a line of a script is refused. A report prints it in lower case.
@@ -36,6 +36,9 @@ pub enum ScriptCause {
 pub enum Command {
     /// Attach to the channel of this name (RTL4).
     Attach(Text),
+    /// Attach to the channel of this name, and go on from this serial (RTL4c1), where the channel was never
+    /// attached.
+    AttachAt(Text, ChannelSerial),
     /// Publish these messages on the channel of this name (RTL6).
     Publish(Text, List<Item>),
 }
@@ -47,8 +50,12 @@ pub enum Line {
     Client(Text),
     /// A client connects (RTN11).
     Open(Text),
+    /// A client's connection drops.
+    Cut(Text),
     /// A client is told to do something.
     Act(Text, Command),
+    /// So many messages with this text are put on the channel of this name, by no client.
+    Feed(Text, u32, Text),
     /// All that is under way is carried through.
     Settle,
 }
@@ -69,6 +76,9 @@ impl Copied for Command {
     fn copy(&self, alloc: Global) -> Result<Command, NoMemory> {
         match self {
             Command::Attach(channel) => Ok(Command::Attach(channel.copy(alloc)?)),
+            Command::AttachAt(channel, serial) => {
+                Ok(Command::AttachAt(channel.copy(alloc)?, *serial))
+            }
             Command::Publish(channel, items) => {
                 let channel = channel.copy(alloc)?;
                 Ok(Command::Publish(channel, items.copy(alloc)?))
@@ -82,9 +92,14 @@ impl Copied for Line {
         match self {
             Line::Client(name) => Ok(Line::Client(name.copy(alloc)?)),
             Line::Open(name) => Ok(Line::Open(name.copy(alloc)?)),
+            Line::Cut(name) => Ok(Line::Cut(name.copy(alloc)?)),
             Line::Act(name, command) => {
                 let name = name.copy(alloc)?;
                 Ok(Line::Act(name, command.copy(alloc)?))
+            }
+            Line::Feed(channel, count, text) => {
+                let channel = channel.copy(alloc)?;
+                Ok(Line::Feed(channel, *count, text.copy(alloc)?))
             }
             Line::Settle => Ok(Line::Settle),
         }

@@ -1,0 +1,13 @@
+pub mod Texts
+pub mod History
+pub mod Ids
+pub mod Verdict
+pub mod Window
+pub mod Reply
+pub mod Records
+pub mod Client
+pub mod World
+pub mod Findings
+pub mod Report
+pub mod Script
+pub mod Examples
