@@ -1,0 +1,21 @@
+//! Laws over the definitions alone. Each is a function that does nothing: its contract is the law.
+ghost use Rattle.std.specs.Prelude.{List};
+ghost use Rattle.rl_types.specs.declared.channel.ChannelEvent.{ChannelEvent};
+ghost use Rattle.rl_types.specs.declared.script.Line.{Line};
+ghost use Rattle.rl_model.specs.World.{final};
+ghost use Rattle.rl_claims.specs.Once.{OnceById};
+ghost use Rattle.rl_claims.specs.Sound.{HasSoundRecords};
+
+/// Two entries with one given id stand more than 8,192 places apart, whatever a channel takes.
+#[tactic(auto, using(crate::proofs::Once::once_by_id))]
+pub fn once_by_id()
+    ensures { (past : List ChannelEvent) → OnceById past }
+{}
+
+/// Each segment of a record is one contiguous run of the channel's log, begins where the answer to an ATTACH
+/// told, with the cause that the ATTACH gives, and at or past the end of the one before; only the first is
+/// recovered. This holds for every list of lines.
+#[tactic(auto, using(crate::proofs::Sound::sound_records))]
+pub fn sound_records()
+    ensures { (script : List Line) → HasSoundRecords (final script) }
+{}
