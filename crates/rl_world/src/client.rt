@@ -1,0 +1,109 @@
+ghost use Rattle.std.specs.Prelude.{◌≡◌, ◌++◌, drop, OnOk, IfOk};
+ghost use Rattle.rl_model.specs.Client.{new_client, opened, dropped, connected, attach_in, publish, numbered};
+ghost use Rattle.rl_world.specs.Ends.{AreWithin};
+
+use crate::records::held;
+use rl_ids::{Copied, List, NoMemory, Text};
+use rl_model::{Client, Sent};
+use rl_types::{Body, ChanState, ConnState, Given};
+use std::alloc::Global;
+
+// A client that is declared.
+pub fn new_client(alloc: Global, name: &Text) -> Result<Client, NoMemory>
+    ensures { IfOk result (λ client. client ≡ new_client name.now) }
+{
+    Ok(Client {
+        name: name.copy(alloc)?,
+        conn: ConnState::Initialized,
+        chan: ChanState::Initialized,
+        known: false,
+        asked: None,
+        published: List::new(alloc),
+        answers: List::new(alloc),
+        segments: List::new(alloc),
+        sent: List::new(alloc),
+    })
+}
+
+pub fn opened(state: ConnState) -> ConnState
+    ensures { result ≡ opened state }
+{
+    match state {
+        ConnState::Initialized | ConnState::Disconnected => ConnState::Connecting,
+        other => other,
+    }
+}
+
+pub fn dropped(state: ConnState) -> ConnState
+    ensures { result ≡ dropped state }
+{
+    match state {
+        ConnState::Connected => ConnState::Disconnected,
+        other => other,
+    }
+}
+
+// The client is told to attach.
+pub fn attach(alloc: Global, client: &mut Client, asked: Option<Given>) -> Result<(), NoMemory>
+    ensures { OnOk result (client.new ≡ attach_in client.old.chan asked client.old) }
+{
+    if client.chan != ChanState::Initialized {
+        return Ok(());
+    }
+    if client.conn == ConnState::Connected {
+        client.sent.push(Sent::Asks(asked.copy(alloc)?))?;
+    }
+    client.chan = ChanState::Attaching;
+    client.asked = asked;
+    Ok(())
+}
+
+// The client publishes.
+pub fn publish(alloc: Global, client: &mut Client, body: Body) -> Result<(), NoMemory>
+    ensures { OnOk result (client.new ≡ publish body client.old) }
+{
+    if client.conn == ConnState::Connected {
+        let serial = client.published.len() as u64;
+        client.sent.push(Sent::Sends(serial, body.copy(alloc)?))?;
+    }
+    client.published.push(body)
+}
+
+// The messages that were not answered yet follow what is to be sent.
+fn push_pending(
+    alloc: Global,
+    sent: &mut List<Sent>,
+    published: &[Body],
+    answered: usize,
+) -> Result<(), NoMemory>
+    ensures { OnOk result (sent.new ≡ sent.old ++ drop answered (numbered 0 published.now)) }
+{
+    let mut serial = answered;
+    while serial < published.len() {
+        let body = published[serial].copy(alloc)?;
+        sent.push(Sent::Sends(serial as u64, body))?;
+        serial += 1;
+    }
+    Ok(())
+}
+
+// The client was just connected: it attaches again, and sends again what was not answered.
+pub fn connect(alloc: Global, client: &mut Client) -> Result<(), NoMemory>
+    ensures { OnOk result (AreWithin client.old.segments → client.new ≡ connected client.old) }
+{
+    let mut sent = List::new(alloc);
+    if matches!(client.chan, ChanState::Attaching | ChanState::Attached) {
+        sent.push(Sent::Asks(held(alloc, &client.asked, &client.segments)?))?;
+        client.chan = ChanState::Attaching;
+    }
+    push_pending(
+        alloc,
+        &mut sent,
+        client.published.as_slice(),
+        client.answers.len(),
+    )?;
+    client.sent = sent;
+    client.conn = ConnState::Connected;
+    client.known = true;
+    Ok(())
+}

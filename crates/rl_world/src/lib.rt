@@ -1,0 +1,5 @@
+//! Runs scripts: the world that a script's lines make, over a channel machine, and what it shows.
+#![tactic(auto)]
+
+mod client;
+mod records;

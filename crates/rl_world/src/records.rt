@@ -1,0 +1,97 @@
+ghost use Rattle.std.specs.Prelude.{◌≡◌, ◌-◌, ◌^◌, ◌<◌, min, drop, length, OnOk, IfOk};
+ghost use Rattle.rl_model.specs.Records.{segment_end, segments_after, caught_up, more_got, held_of, last_segment};
+ghost use Rattle.rl_world.specs.Ends.{AreWithin};
+
+use rl_ids::{ChannelSerial, Copied, Epoch, List, NoMemory, Place};
+use rl_types::{Cause, Entry, Given, Segment};
+use std::alloc::Global;
+
+/// The epoch in which every script runs.
+pub const EPOCH: Epoch = Epoch(1);
+
+// The segments go on, or a new one begins, where an ATTACH is answered.
+pub fn begin_segment(
+    alloc: Global,
+    segments: &mut List<Segment>,
+    asked: Option<Given>,
+    resumed: bool,
+    place: Place,
+) -> Result<(), NoMemory>
+    ensures { OnOk result (segments.new ≡ segments_after asked resumed place segments.old) }
+{
+    let cause = match asked {
+        None => Cause::Opened,
+        Some(asked) => {
+            if !resumed {
+                Cause::NotRetained(asked)
+            } else if segments.is_empty() {
+                Cause::Recovered(asked)
+            } else {
+                return Ok(());
+            }
+        }
+    };
+    segments.push(Segment {
+        start: place,
+        cause,
+        got: List::new(alloc),
+    })
+}
+
+// The place behind the last entry got. It stays at the greatest number where it would pass it.
+fn segment_end(segment: &Segment) -> u64
+    ensures { result ≡ min (segment_end segment.now) (2 ^ 64 - 1) }
+{
+    segment.start.0.saturating_add(segment.got.len() as u64)
+}
+
+// The entries behind a place.
+fn rest_of(log: &[Entry], place: u64) -> &[Entry]
+    ensures rest { result.now ≡ drop place log.now }
+    ensures few { length log.now < 2 ^ 64 }
+{
+    match usize::try_from(place) {
+        Ok(place) if place <= log.len() => &log[place..],
+        _ => &log[log.len()..],
+    }
+}
+
+// The segment gets every entry of the log behind its end.
+fn get_more(alloc: Global, segment: &mut Segment, log: &[Entry]) -> Result<(), NoMemory>
+    ensures { OnOk result (segment.new ≡ more_got log.now segment.old) }
+{
+    let end = segment_end(segment);
+    for entry in rest_of(log, end) {
+        segment.got.push((entry.place, entry.body.copy(alloc)?))?;
+    }
+    Ok(())
+}
+
+// The last segment gets every entry of the log behind its end.
+pub fn catch_up(alloc: Global, segments: &mut List<Segment>, log: &[Entry]) -> Result<(), NoMemory>
+    ensures { OnOk result (segments.new ≡ caught_up log.now segments.old) }
+{
+    let count = segments.len();
+    if count == 0 {
+        return Ok(());
+    }
+    let last = segments.at_mut(count - 1);
+    get_more(alloc, last, log)
+}
+
+// The serial that a client holds.
+pub fn held(
+    alloc: Global,
+    asked: &Option<Given>,
+    segments: &List<Segment>,
+) -> Result<Option<Given>, NoMemory>
+    ensures { IfOk result (λ serial. AreWithin segments.now → serial ≡ held_of asked.now (last_segment segments.now)) }
+{
+    match segments.last() {
+        None => asked.copy(alloc),
+        Some(last) => Ok(Some(Given::Ours(ChannelSerial {
+            epoch: EPOCH,
+            place: Place(segment_end(last)),
+        }))),
+    }
+}
