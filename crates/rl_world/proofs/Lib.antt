@@ -1,1 +1,4 @@
+pub mod Fed
 pub mod Places
+pub mod Shown
+pub mod Worlds

@@ -11,7 +11,7 @@ use Rattle.rl_model.specs.declared.plain.Sent.{Sent}
 use Rattle.rl_model.specs.declared.plain.Sent.TheVariants.{Sends}
 use Rattle.rl_model.specs.Records.{segment_end, held_of, last_segment, serial_at, more_got, caught_up}
 use Rattle.rl_model.specs.Client.{numbered}
-use Rattle.rl_world.specs.Ends.{AreWithin}
+use Rattle.rl_world.specs.Ends.{EndBy}
 
 -- a place that 64 bits do not hold is behind every list in memory
 pub drop_capped : {X : Type 0} (n : ℕ) (xs : List X) → length xs < 2 ^ 64 → drop (min n (2 ^ 64 - 1)) xs ≡ drop n xs
@@ -19,6 +19,7 @@ drop_capped n xs few = by_size (low_or_high n)
   where
     low_or_high : (k : ℕ) → (k < 2 ^ 64) ⊎ (2 ^ 64 ≤ k)
     low_or_high k = grind arith
+
     by_size : (n < 2 ^ 64) ⊎ (2 ^ 64 ≤ n) → drop (min n (2 ^ 64 - 1)) xs ≡ drop n xs
     by_size (inl low) = let same : min n (2 ^ 64 - 1) ≡ n = omega arith in ap (λ k. drop k xs) same
     by_size (inr high) = drop_all (min n (2 ^ 64 - 1)) xs (omega arith) ∙ sym (drop_all n xs (omega arith))
@@ -35,24 +36,25 @@ pub length-numbered : (bodies : List Body) (first : ℕ) → length (numbered fi
 length-numbered [] first = refl
 length-numbered (b ∷ bodies) first = ap suc (length-numbered bodies (suc first))
 
--- the last of segments that are within is within
-pub last_within : (segments : List Segment) (last : Segment) → slice_get segments (length segments - 1) ≡ Some last → AreWithin segments
-    → (segment_end last < 2 ^ 64) × (last_segment segments ≡ Some last)
-last_within [] last at within = absurd (cc)
-last_within (s ∷ []) last at within = let same : s ≡ last = cc in (rw (← same) within.0, ap (λ x. Some x) same)
-last_within (s ∷ next ∷ segments) last at within =
-    last_within (next ∷ segments) last (sym (shift (length segments)) ∙ at) within.1
+-- the last of segments that end by a place ends by it
+pub last_ends : (head : ℕ) (segments : List Segment) (last : Segment) → slice_get segments (length segments - 1) ≡ Some last → EndBy head segments
+    → (segment_end last ≤ head) × (last_segment segments ≡ Some last)
+last_ends head [] last at within = absurd (cc)
+last_ends head (s ∷ []) last at within = let same : s ≡ last = cc in (rw (← same) within.0, ap (λ x. Some x) same)
+last_ends head (s ∷ next ∷ segments) last at within =
+    last_ends head (next ∷ segments) last (sym (shift (length segments)) ∙ at) within.1
   where
     shift : (k : ℕ) → slice_get (s ∷ next ∷ segments) (suc (suc k) - 1) ≡ slice_get (next ∷ segments) (suc k - 1)
     shift k = let e : suc (suc k) - 1 ≡ suc (suc k - 1) = omega arith in ap (slice_get (s ∷ next ∷ segments)) e
 
 -- the serial of the end of the last segment
-pub held_is : (asked : Option Given) (segments : List Segment) (last : Segment) (place : ℕ) → slice_get segments (length segments - 1) ≡ Some last
-    → place ≡ min (segment_end last) (2 ^ 64 - 1) → AreWithin segments → Some (serial_at place) ≡ held_of asked (last_segment segments)
-held_is asked segments last place at is within =
-    let known = last_within segments last at within in
-    let low : segment_end last < 2 ^ 64 = known.0 in
-    let same : place ≡ segment_end last = omega (arith, is, low) in
+pub held_is : (head : ℕ) (asked : Option Given) (segments : List Segment) (last : Segment) (end place : ℕ) → head < 2 ^ 64
+    → slice_get segments (length segments - 1) ≡ Some last → end ≡ min (segment_end last) (2 ^ 64 - 1) → place ≡ min end head
+    → EndBy head segments → Some (serial_at place) ≡ held_of asked (last_segment segments)
+held_is head asked segments last end place small at is capped within =
+    let known = last_ends head segments last at within in
+    let low : segment_end last ≤ head = known.0 in
+    let same : place ≡ segment_end last = omega (arith, is, capped, low, small) in
     ap (λ k. Some (serial_at k)) same ∙ sym (ap (held_of asked) known.1)
 
 -- the last segment is the one that catches up

@@ -1,9 +1,15 @@
--- Places that 64 bits hold.
-use Rattle.std.specs.Prelude.{ℕ, ◌<◌, ◌^◌, List}
+-- Segments that end within a log.
+use Rattle.std.specs.Prelude.{ℕ, ◌≤◌, List, Option, Some, None, ⊤}
 use Rattle.std.specs.List.{AllByRecursion}
 use Rattle.rl_types.specs.declared.findings.Segment.{Segment}
+use Rattle.rl_model.specs.declared.plain.Client.{Client}
 use Rattle.rl_model.specs.Records.{segment_end}
 
--- the end of each segment is a place
-abbrev pub AreWithin : List Segment → Type 0
-AreWithin segments = AllByRecursion (λ (segment : Segment). segment_end segment < 2 ^ 64) segments
+-- no segment ends past this place
+abbrev pub EndBy : ℕ → List Segment → Type 0
+EndBy head segments = AllByRecursion (λ (segment : Segment). segment_end segment ≤ head) segments
+
+-- the same of a client, where there is one
+abbrev pub EndsBy : ℕ → Option Client → Type 0
+EndsBy head None = ⊤
+EndsBy head (Some client) = EndBy head client.segments

@@ -1,11 +1,12 @@
 ghost use Rattle.std.specs.Prelude.{◌≡◌, ◌++◌, drop, OnOk, IfOk};
-ghost use Rattle.rl_model.specs.Client.{new_client, opened, dropped, connected, attach_in, publish, numbered};
-ghost use Rattle.rl_world.specs.Ends.{AreWithin};
+ghost use Rattle.rl_model.specs.Client.{new_client, opened, dropped, connected, attach_in, publish, numbered, channel_of};
+ghost use Rattle.rl_world.specs.Ends.{EndBy};
+ghost use Rattle.rl_world.specs.Ready.{IsReady};
 
 use crate::records::held;
 use rl_ids::{Copied, List, NoMemory, Text};
 use rl_model::{Client, Sent};
-use rl_types::{Body, ChanState, ConnState, Given};
+use rl_types::{Body, ChanState, Command, ConnState, Given};
 use std::alloc::Global;
 
 // A client that is declared.
@@ -87,13 +88,15 @@ fn push_pending(
     Ok(())
 }
 
-// The client was just connected: it attaches again, and sends again what was not answered.
-pub fn connect(alloc: Global, client: &mut Client) -> Result<(), NoMemory>
-    ensures { OnOk result (AreWithin client.old.segments → client.new ≡ connected client.old) }
+// The client was just connected: it attaches again, and sends again what was not answered. No segment
+// ends past the head.
+pub fn connect(alloc: Global, client: &mut Client, head: u64) -> Result<(), NoMemory>
+    ensures { OnOk result (EndBy head client.old.segments → client.new ≡ connected client.old) }
 {
     let mut sent = List::new(alloc);
     if matches!(client.chan, ChanState::Attaching | ChanState::Attached) {
-        sent.push(Sent::Asks(held(alloc, &client.asked, &client.segments)?))?;
+        let serial = held(alloc, &client.asked, &client.segments, head)?;
+        sent.push(Sent::Asks(serial))?;
         client.chan = ChanState::Attaching;
     }
     push_pending(
@@ -106,4 +109,29 @@ pub fn connect(alloc: Global, client: &mut Client) -> Result<(), NoMemory>
     client.conn = ConnState::Connected;
     client.known = true;
     Ok(())
+}
+
+// Connects a connecting client. Whether the client is then connected, so that it is to be served.
+pub fn make_ready(alloc: Global, client: &mut Client, head: u64) -> Result<bool, NoMemory>
+    ensures { IfOk result (λ is. EndBy head client.old.segments → IsReady client.old.conn client.old client.new is) }
+{
+    match client.conn {
+        ConnState::Connecting => {
+            connect(alloc, client, head)?;
+            Ok(true)
+        }
+        ConnState::Connected => Ok(true),
+        _ => Ok(false),
+    }
+}
+
+/// The channel that a command names.
+pub fn channel_of(command: &Command) -> &Text
+    ensures { result.now ≡ channel_of command.now }
+{
+    match command {
+        Command::Attach(channel) => channel,
+        Command::AttachAt(channel, _) => channel,
+        Command::Publish(channel, _) => channel,
+    }
 }

@@ -2,4 +2,9 @@
 #![tactic(auto)]
 
 mod client;
+mod findings;
 mod records;
+mod serving;
+mod world;
+
+pub use world::{World, run};

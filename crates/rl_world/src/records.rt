@@ -1,6 +1,6 @@
 ghost use Rattle.std.specs.Prelude.{◌≡◌, ◌-◌, ◌^◌, ◌<◌, min, drop, length, OnOk, IfOk};
 ghost use Rattle.rl_model.specs.Records.{segment_end, segments_after, caught_up, more_got, held_of, last_segment};
-ghost use Rattle.rl_world.specs.Ends.{AreWithin};
+ghost use Rattle.rl_world.specs.Ends.{EndBy};
 
 use rl_ids::{ChannelSerial, Copied, Epoch, List, NoMemory, Place};
 use rl_types::{Cause, Entry, Given, Segment};
@@ -46,7 +46,7 @@ fn segment_end(segment: &Segment) -> u64
 }
 
 // The entries behind a place.
-fn rest_of(log: &[Entry], place: u64) -> &[Entry]
+pub fn rest_of(log: &[Entry], place: u64) -> &[Entry]
     ensures rest { result.now ≡ drop place log.now }
     ensures few { length log.now < 2 ^ 64 }
 {
@@ -79,19 +79,20 @@ pub fn catch_up(alloc: Global, segments: &mut List<Segment>, log: &[Entry]) -> R
     get_more(alloc, last, log)
 }
 
-// The serial that a client holds.
+// The serial that a client holds, where no segment ends past the head.
 pub fn held(
     alloc: Global,
     asked: &Option<Given>,
     segments: &List<Segment>,
+    head: u64,
 ) -> Result<Option<Given>, NoMemory>
-    ensures { IfOk result (λ serial. AreWithin segments.now → serial ≡ held_of asked.now (last_segment segments.now)) }
+    ensures { IfOk result (λ serial. EndBy head segments.now → serial ≡ held_of asked.now (last_segment segments.now)) }
 {
     match segments.last() {
         None => asked.copy(alloc),
         Some(last) => Ok(Some(Given::Ours(ChannelSerial {
             epoch: EPOCH,
-            place: Place(segment_end(last)),
+            place: Place(segment_end(last).min(head)),
         }))),
     }
 }

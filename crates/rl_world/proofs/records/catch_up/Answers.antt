@@ -7,7 +7,7 @@ use Rattle.rl_world.proofs.records.catch_up.Goals as goal
 pub returns : goal.returns
 returns c =
     on_ok_weaker c.get_more.result (λ more.
-      ap (λ k. slice_set c.args.segments.now (k - 1) c.get_more.new.segment) c.len-count.ensures
-      ∙ caught_last c.args.log.now c.args.segments.now c.at_mut-last.result.now c.get_more.new.segment
-      (rw c.len-count.ensures at c.at_mut-last.ensures.value) more)
+    ap (λ k. slice_set c.args.segments.now (k - 1) c.get_more.new.segment) c.len-count.ensures
+    ∙ caught_last c.args.log.now c.args.segments.now c.at_mut-last.result.now c.get_more.new.segment
+    (rw c.len-count.ensures at c.at_mut-last.ensures.value) more)
     c.get_more.ensures

@@ -1,0 +1,153 @@
+//! Clients: their connections, their answers and what they know of their channels.
+ghost use Rattle.std.specs.Prelude.{◌≡◌, ◌++◌, ◌∷◌, [], codes, decimal, OnOk};
+ghost use Rattle.rl_model.specs.Report.{answer_line, chan_word, client_lines, conn_word, held_word, line, spaced, text_or_dash, view_lines, yes_or_no};
+
+use crate::lists::{Printed, push_all};
+use crate::words::{push_number, push_str, push_text_or_dash, push_word, push_yes_or_no};
+use rl_ids::{Blob, ChannelSerial, Epoch, NoMemory};
+use rl_types::{Answer, ChanState, ChannelView, ClientFindings, ConnState};
+
+fn conn_word(state: ConnState) -> &'static str
+    ensures { result.now ≡ conn_word state }
+{
+    match state {
+        ConnState::Initialized => "initialized",
+        ConnState::Connecting => "connecting",
+        ConnState::Connected => "connected",
+        ConnState::Disconnected => "disconnected",
+        ConnState::Suspended => "suspended",
+        ConnState::Closing => "closing",
+        ConnState::Closed => "closed",
+        ConnState::Failed => "failed",
+    }
+}
+
+fn chan_word(state: ChanState) -> &'static str
+    ensures { result.now ≡ chan_word state }
+{
+    match state {
+        ChanState::Initialized => "initialized",
+        ChanState::Attaching => "attaching",
+        ChanState::Attached => "attached",
+        ChanState::Detaching => "detaching",
+        ChanState::Detached => "detached",
+        ChanState::Suspended => "suspended",
+        ChanState::Failed => "failed",
+    }
+}
+
+impl Printed for Answer {
+    ghost text_of = { λ epoch. answer_line };
+
+    fn push_to(&self, out: &mut Blob, _epoch: Epoch) -> Result<(), NoMemory> {
+        match self {
+            Answer::Ack { conn, serial } => {
+                push_str(out, "ack")?;
+                push_word(out, conn.as_str())?;
+                push_number(out, *serial)?;
+                push_str(out, "\n")
+            }
+            Answer::Nack { conn, serial, code } => {
+                push_str(out, "nack")?;
+                push_word(out, conn.as_str())?;
+                push_number(out, *serial)?;
+                push_number(out, u64::from(*code))?;
+                push_str(out, "\n")
+            }
+        }
+    }
+}
+
+// The place that is held, whatever its epoch.
+fn push_held(out: &mut Blob, held: &Option<ChannelSerial>) -> Result<(), NoMemory>
+    ensures { OnOk result (out.new ≡ out.old ++ 32 ∷ held_word held.now) }
+{
+    match held {
+        Some(serial) => push_number(out, serial.place.0),
+        None => push_word(out, "-"),
+    }
+}
+
+// The line of the record itself.
+fn push_record(out: &mut Blob, view: &ChannelView) -> Result<(), NoMemory>
+    ensures { OnOk result (out.new ≡ out.old ++ line (codes "record") (view.now.name ∷ chan_word view.now.state ∷ held_word view.now.held ∷ [])) }
+{
+    push_str(out, "record")?;
+    push_word(out, view.name.as_str())?;
+    push_word(out, chan_word(view.state))?;
+    push_held(out, &view.held)?;
+    push_str(out, "\n")
+}
+
+// Whether what the client knows of a channel is whole.
+fn push_whole(out: &mut Blob, first: &str, name: &str, whole: bool) -> Result<(), NoMemory>
+    ensures { OnOk result (out.new ≡ out.old ++ line first.now (name.now ∷ yes_or_no whole ∷ [])) }
+{
+    push_str(out, first)?;
+    push_word(out, name)?;
+    push_yes_or_no(out, whole)?;
+    push_str(out, "\n")
+}
+
+// The lines on members and objects. No script makes a member or an object: only the root is there, an
+// empty map.
+fn push_wholes(out: &mut Blob, view: &ChannelView) -> Result<(), NoMemory>
+    ensures { OnOk result (out.new ≡ out.old
+        ++ line (codes "members") (view.now.name ∷ yes_or_no view.now.members_whole ∷ [])
+        ++ line (codes "objects") (view.now.name ∷ yes_or_no view.now.objects_whole ∷ [])
+        ++ codes "map root 0\n") }
+{
+    push_whole(out, "members", view.name.as_str(), view.members_whole)?;
+    push_whole(out, "objects", view.name.as_str(), view.objects_whole)?;
+    push_str(out, "map root 0\n")
+}
+
+impl Printed for ChannelView {
+    ghost text_of = { view_lines };
+
+    fn push_to(&self, out: &mut Blob, epoch: Epoch) -> Result<(), NoMemory> {
+        push_record(out, self)?;
+        push_all(out, epoch, self.runs.segments.as_slice())?;
+        push_wholes(out, self)
+    }
+}
+
+// The words of a client's own line on its connection.
+fn push_connection(out: &mut Blob, client: &ClientFindings) -> Result<(), NoMemory>
+    ensures { OnOk result (out.new ≡ out.old ++ spaced (client.now.name ∷ conn_word client.now.state ∷ text_or_dash client.now.conn ∷ [])) }
+{
+    push_word(out, client.name.as_str())?;
+    push_word(out, conn_word(client.state))?;
+    push_text_or_dash(out, &client.conn)
+}
+
+// A count with its name before it.
+fn push_count(out: &mut Blob, name: &str, count: u64) -> Result<(), NoMemory>
+    ensures { OnOk result (out.new ≡ out.old ++ spaced (name.now ∷ decimal count ∷ [])) }
+{
+    push_word(out, name)?;
+    push_number(out, count)
+}
+
+// The client's own line.
+fn push_client(out: &mut Blob, client: &ClientFindings) -> Result<(), NoMemory>
+    ensures { OnOk result (out.new ≡ out.old ++ line (codes "client")
+        (client.now.name ∷ conn_word client.now.state ∷ text_or_dash client.now.conn
+        ∷ codes "pending" ∷ decimal client.now.pending ∷ codes "dropped" ∷ decimal client.now.dropped ∷ [])) }
+{
+    push_str(out, "client")?;
+    push_connection(out, client)?;
+    push_count(out, "pending", client.pending as u64)?;
+    push_count(out, "dropped", client.dropped)?;
+    push_str(out, "\n")
+}
+
+impl Printed for ClientFindings {
+    ghost text_of = { client_lines };
+
+    fn push_to(&self, out: &mut Blob, epoch: Epoch) -> Result<(), NoMemory> {
+        push_client(out, self)?;
+        push_all(out, epoch, self.answers.as_slice())?;
+        push_all(out, epoch, self.views.as_slice())
+    }
+}

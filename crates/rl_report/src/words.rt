@@ -1,0 +1,132 @@
+//! The words of a line, each with the space before it.
+ghost use Rattle.std.specs.Prelude.{◌≡◌, ◌++◌, ◌∷◌, [], ◌<◌, flat_map, decimal, OnOk};
+ghost use Rattle.rl_base.specs.Digits.{digit_glyph, fixed_text};
+ghost use Rattle.rl_ids.specs.Forms.{conn_text};
+ghost use Rattle.rl_model.specs.Report.{number_or_dash, quoted, quoted_byte, quoted_or_dash, text_or_dash, yes_or_no};
+
+use itoa::Buffer;
+use rl_ids::{Blob, ConnNo, NoMemory, Text};
+
+// A text as it is, with no space before it.
+pub fn push_str(out: &mut Blob, more: &str) -> Result<(), NoMemory>
+    ensures { OnOk result (out.new ≡ out.old ++ more.now) }
+{
+    out.extend_from_slice(more.as_bytes())
+}
+
+pub fn push_word(out: &mut Blob, word: &str) -> Result<(), NoMemory>
+    ensures { OnOk result (out.new ≡ out.old ++ 32 ∷ word.now) }
+{
+    out.push(b' ')?;
+    push_str(out, word)
+}
+
+pub fn push_number(out: &mut Blob, number: u64) -> Result<(), NoMemory>
+    ensures { OnOk result (out.new ≡ out.old ++ 32 ∷ decimal number) }
+{
+    let mut buffer = Buffer::new();
+    push_word(out, buffer.format(number))
+}
+
+pub fn push_number_or_dash(out: &mut Blob, number: Option<u64>) -> Result<(), NoMemory>
+    ensures { OnOk result (out.new ≡ out.old ++ 32 ∷ number_or_dash number) }
+{
+    match number {
+        Some(number) => push_number(out, number),
+        None => push_word(out, "-"),
+    }
+}
+
+pub fn push_text_or_dash(out: &mut Blob, text: &Option<Text>) -> Result<(), NoMemory>
+    ensures { OnOk result (out.new ≡ out.old ++ 32 ∷ text_or_dash text.now) }
+{
+    match text {
+        Some(text) => push_word(out, text.as_str()),
+        None => push_word(out, "-"),
+    }
+}
+
+pub fn push_yes_or_no(out: &mut Blob, yes: bool) -> Result<(), NoMemory>
+    ensures { OnOk result (out.new ≡ out.old ++ 32 ∷ yes_or_no yes) }
+{
+    if yes {
+        push_word(out, "yes")
+    } else {
+        push_word(out, "no")
+    }
+}
+
+// The id of a connection, in place: no text is made of it.
+pub fn push_conn(out: &mut Blob, conn: ConnNo) -> Result<(), NoMemory>
+    ensures { OnOk result (out.new ≡ out.old ++ 32 ∷ conn_text conn) }
+{
+    push_word(out, "c")?;
+    push_digits(out, 8, conn.0)
+}
+
+// The digit's character.
+fn digit_glyph(digit: u8) -> u8
+    requires { digit < 16 }
+    ensures { result ≡ digit_glyph digit }
+{
+    if digit < 10 {
+        b'0' + digit
+    } else {
+        b'a' + (digit - 10)
+    }
+}
+
+// The last `width` hexadecimal digits of a number.
+fn push_digits(out: &mut Blob, width: u8, number: u32) -> Result<(), NoMemory>
+    ensures { OnOk result (out.new ≡ out.old ++ fixed_text 16 width number) }
+{
+    if width == 0 {
+        return Ok(());
+    }
+    push_digits(out, width - 1, number / 16)?;
+    out.push(digit_glyph((number % 16) as u8))
+}
+
+// A byte of a text in quotes.
+fn push_quoted_byte(out: &mut Blob, byte: u8) -> Result<(), NoMemory>
+    ensures { OnOk result (out.new ≡ out.old ++ quoted_byte byte) }
+{
+    match byte {
+        b'"' | b'\\' => {
+            out.push(b'\\')?;
+            out.push(byte)
+        }
+        0..=31 | 127 => {
+            push_str(out, "\\u")?;
+            push_digits(out, 4, u32::from(byte))
+        }
+        _ => out.push(byte),
+    }
+}
+
+fn push_quoted_bytes(out: &mut Blob, bytes: &[u8]) -> Result<(), NoMemory>
+    ensures { OnOk result (out.new ≡ out.old ++ flat_map quoted_byte bytes.now) }
+{
+    for byte in bytes {
+        push_quoted_byte(out, *byte)?;
+    }
+    Ok(())
+}
+
+// A text in quotes.
+fn push_quoted(out: &mut Blob, text: &Text) -> Result<(), NoMemory>
+    ensures { OnOk result (out.new ≡ out.old ++ 32 ∷ quoted text.now) }
+{
+    push_word(out, "\"")?;
+    push_quoted_bytes(out, text.as_bytes())?;
+    out.push(b'"')
+}
+
+pub fn push_quoted_or_dash(out: &mut Blob, text: &Option<Text>) -> Result<(), NoMemory>
+    ensures { OnOk result (out.new ≡ out.old ++ 32 ∷ quoted_or_dash text.now) }
+{
+    match text {
+        Some(text) => push_quoted(out, text),
+        None => push_word(out, "-"),
+    }
+}

@@ -1,0 +1,13 @@
+use Rattle.std.proofs.Common.{◌+◌, ◌<◌, ◌^◌, subst, sym, ◌≡◌}
+use Rattle.rl_types.specs.declared.script.Line.{Line}
+use Rattle.rl_model.specs.World.{after_line}
+use Rattle.rl_model.specs.Script.{fed_by}
+use Rattle.rl_world.specs.State.{shown}
+use Rattle.rl_world.proofs.Worlds.{named_and_fed}
+use Rattle.rl_world.proofs.world.World.take_line.Goals as goal
+
+pub returns-in_ok-feed-in-Feed : goal.returns-in_ok-feed-in-Feed
+returns-in_ok-feed-in-Feed c = λ world is may.
+    rw c.in-Feed.is
+    (named_and_fed world c.args.self.now c.name_channel-in-Feed.new.self c.feed.new.self c.in-Feed.channel c.in-Feed.text c.in-Feed.count is
+    c.in_ok-name_channel-in-Feed.ensures c.in_ok-feed-in-Feed.ensures (rw c.in-Feed.is at may.countable))

@@ -1,0 +1,15 @@
+-- What a line makes of what is kept, where the channel machine has no part in it.
+use Rattle.std.specs.Prelude.{Option, option_map}
+use Rattle.rl_types.specs.declared.script.Command.{Command}
+use Rattle.rl_types.specs.declared.states.ConnState.{ConnState}
+use Rattle.rl_model.specs.declared.plain.Client.{Client}
+use Rattle.rl_model.specs.Client.{act}
+use Rattle.rl_world.specs.State.{WorldState}
+
+-- the client does what it is told
+abbrev pub acted : Command → WorldState → WorldState
+acted command state = record state { client = option_map (act command) state.client }
+
+-- the client's connection changes
+abbrev pub with_conn : (ConnState → ConnState) → WorldState → WorldState
+with_conn change state = record state { client = option_map (λ (client : Client). record client { conn = change client.conn }) state.client }

@@ -1,0 +1,280 @@
+ghost use Rattle.std.specs.Prelude.{◌≡◌, ◌+◌, ◌<◌, ◌^◌, ℕ, ◌∷◌, ◌++◌, [], List, Some, fold, OnOk, IfOk};
+ghost use Rattle.rl_types.specs.declared.channel.ChannelEvent.{ChannelEvent};
+ghost use Rattle.rl_types.specs.declared.script.Line.{Line};
+ghost use Rattle.rl_model.specs.World as model;
+ghost use Rattle.rl_model.specs.Findings.{findings};
+ghost use Rattle.rl_model.specs.Script.{fed};
+ghost use Rattle.rl_model.specs.declared.plain.Sent.TheVariants.{Asks, Sends};
+ghost use Rattle.rl_claims.specs.Sound.{HasSoundRecords};
+ghost use Rattle.rl_world.specs.State.{shown, StandsFor, MayFollow};
+ghost use Rattle.rl_world.specs.Ready.{MakesReady, TakesSent};
+ghost use Rattle.rl_world.specs.Steps.{acted, with_conn};
+ghost use Rattle.rl_model.specs.Client.{opened, dropped};
+
+use crate::client::{attach, channel_of, dropped, make_ready, new_client, opened, publish};
+use crate::findings::{channels_of, clients_of};
+use crate::records::{EPOCH, begin_segment, catch_up};
+use crate::serving::{one_message, push_answer, put_fed, put_message};
+use rl_ids::{Copied, List, NoMemory, Text};
+use rl_model::{Client, Sent};
+use rl_plainchannel::PlainChannel;
+use rl_types::{Body, ChanState, Command, Findings, Given, Line, Script};
+use std::alloc::Global;
+use std::marker::Model;
+use std::mem;
+
+/// The world of a script: a channel machine, the channel's name, and the client.
+#[derive(Drop)]
+pub struct World {
+    machine: PlainChannel,
+    begun: bool,
+    fed: u64,
+    channel: Option<Text>,
+    client: Option<Client>,
+}
+
+impl Model for World {
+    ghost use Rattle.rl_world.specs.State.{WorldState};
+
+    ghost Value = { WorldState };
+
+    ghost view = { λ w.
+        record { machine = w.machine; begun = w.begun; fed = w.fed; channel = w.channel; client = w.client } };
+}
+
+impl World {
+    fn new(alloc: Global) -> World
+        ensures { result ≡ shown model.empty_world }
+    {
+        World {
+            machine: PlainChannel::new(alloc, EPOCH),
+            begun: false,
+            fed: 0,
+            channel: None,
+            client: None,
+        }
+    }
+
+    // An ATTACH is answered: the client's segments go on, or a new one begins.
+    fn join(&mut self, alloc: Global, asked: Option<Given>) -> Result<(), NoMemory>
+        ensures { OnOk result ((world : model.World) → self.old ≡ shown world → self.new ≡ shown (model.serve_next world (Asks asked))) }
+    {
+        let joined = self.machine.join(&asked);
+        if let Some(client) = &mut self.client {
+            begin_segment(
+                alloc,
+                &mut client.segments,
+                asked,
+                joined.resumed,
+                joined.place,
+            )?;
+            client.chan = ChanState::Attached;
+            self.begun = true;
+        }
+        Ok(())
+    }
+
+    // A message of the client is taken up and acknowledged.
+    fn take_message(&mut self, alloc: Global, serial: u64, body: Body) -> Result<(), NoMemory>
+        ensures { OnOk result ((world : model.World) → self.old ≡ shown world → self.new ≡ shown (model.serve_next world (Sends serial body))) }
+    {
+        if let Some(client) = &mut self.client {
+            let answer = put_message(alloc, &mut self.machine, serial, body)?;
+            push_answer(client, answer)?;
+            self.begun = true;
+        }
+        Ok(())
+    }
+
+    fn serve(&mut self, alloc: Global, sent: Sent) -> Result<(), NoMemory>
+        ensures { OnOk result ((world : model.World) → self.old ≡ shown world → self.new ≡ shown (model.serve_next world sent)) }
+    {
+        match sent {
+            Sent::Asks(asked) => self.join(alloc, asked),
+            Sent::Sends(serial, body) => self.take_message(alloc, serial, body),
+        }
+    }
+
+    // All that was sent is served in order.
+    fn serve_all(&mut self, alloc: Global, all: List<Sent>) -> Result<(), NoMemory>
+        ensures { OnOk result ((world : model.World) → self.old ≡ shown world → self.new ≡ shown (fold model.serve_next world all)) }
+    {
+        for sent in all.into_vec() {
+            self.serve(alloc, sent)?;
+        }
+        Ok(())
+    }
+
+    // An attached client gets every later entry.
+    fn finish(&mut self, alloc: Global) -> Result<(), NoMemory>
+        ensures { OnOk result ((world : model.World) → self.old ≡ shown world → self.new ≡ shown (model.finish world world.client)) }
+    {
+        if let Some(client) = &mut self.client {
+            if client.chan == ChanState::Attached {
+                catch_up(
+                    alloc,
+                    &mut client.segments,
+                    self.machine.entries().as_slice(),
+                )?;
+            }
+        }
+        Ok(())
+    }
+
+    // Connects a connecting client. Whether there is a connected one, which is to be served.
+    fn make_ready(&mut self, alloc: Global) -> Result<bool, NoMemory>
+        ensures { IfOk result (λ is. (world : model.World) → self.old ≡ shown world → HasSoundRecords world → MakesReady world world.client self.new is) }
+    {
+        let head = self.machine.head().0;
+        match &mut self.client {
+            Some(client) => make_ready(alloc, client, head),
+            None => Ok(false),
+        }
+    }
+
+    // What the client has sent.
+    fn take_sent(&mut self, alloc: Global) -> List<Sent>
+        ensures { TakesSent self.old self.new result }
+    {
+        match &mut self.client {
+            Some(client) => mem::replace(&mut client.sent, List::new(alloc)),
+            None => List::new(alloc),
+        }
+    }
+
+    fn settle(&mut self, alloc: Global) -> Result<(), NoMemory>
+        ensures { OnOk result ((world : model.World) → self.old ≡ shown world → HasSoundRecords world → self.new ≡ shown (model.settle world world.client)) }
+    {
+        if !self.make_ready(alloc)? {
+            return Ok(());
+        }
+        let sent = self.take_sent(alloc);
+        self.serve_all(alloc, sent)?;
+        self.finish(alloc)
+    }
+
+    fn name_channel(&mut self, alloc: Global, channel: &Text) -> Result<(), NoMemory>
+        ensures { OnOk result (self.new ≡ record self.old { channel = model.named self.old.channel channel.now }) }
+    {
+        if self.channel.is_none() {
+            self.channel = Some(channel.copy(alloc)?);
+        }
+        Ok(())
+    }
+
+    // A message that no client sent is put, with this serial.
+    fn feed_one(&mut self, alloc: Global, serial: u64, text: &Text) -> Result<(), NoMemory>
+        ensures { OnOk result ((world : model.World) → self.old ≡ shown world →
+            self.new ≡ shown (record world { past = ChannelEvent.Put model.feed_conn serial (model.one_message text.now) 0 ∷ world.past })) }
+    {
+        let body = one_message(alloc, text)?;
+        put_fed(alloc, &mut self.machine, serial, body)?;
+        self.begun = true;
+        Ok(())
+    }
+
+    fn feed_all(
+        &mut self,
+        alloc: Global,
+        first: u64,
+        count: u32,
+        text: &Text,
+    ) -> Result<(), NoMemory>
+        ensures { OnOk result ((world : model.World) → self.old ≡ shown world → first + count < 2 ^ 64 →
+            self.new ≡ shown (record world { past = model.feed count (model.one_message text.now) first world.past })) }
+    {
+        for done in 0..count {
+            self.feed_one(alloc, first.saturating_add(u64::from(done)), text)?;
+        }
+        Ok(())
+    }
+
+    // So many messages with this text are put, by no client.
+    fn feed(&mut self, alloc: Global, count: u32, text: &Text) -> Result<(), NoMemory>
+        ensures { OnOk result ((world : model.World) → self.old ≡ shown world → world.fed + count < 2 ^ 64 →
+            self.new ≡ shown (record world { fed = world.fed + count; past = model.feed count (model.one_message text.now) world.fed world.past })) }
+    {
+        let first = self.fed;
+        self.feed_all(alloc, first, count, text)?;
+        self.fed = first.saturating_add(u64::from(count));
+        Ok(())
+    }
+
+    fn open(&mut self)
+        ensures { self.new ≡ with_conn opened self.old }
+    {
+        if let Some(client) = &mut self.client {
+            client.conn = opened(client.conn);
+        }
+    }
+
+    fn cut(&mut self)
+        ensures { self.new ≡ with_conn dropped self.old }
+    {
+        if let Some(client) = &mut self.client {
+            client.conn = dropped(client.conn);
+        }
+    }
+
+    fn act(&mut self, alloc: Global, command: &Command) -> Result<(), NoMemory>
+        ensures { OnOk result (self.new ≡ acted command.now self.old) }
+    {
+        let Some(client) = &mut self.client else {
+            return Ok(());
+        };
+        match command {
+            Command::Attach(_) => attach(alloc, client, None),
+            Command::AttachAt(_, serial) => attach(alloc, client, Some(Given::Ours(*serial))),
+            Command::Publish(_, items) => {
+                publish(alloc, client, Body::Messages(items.copy(alloc)?))
+            }
+        }
+    }
+
+    fn take_line(&mut self, alloc: Global, line: &Line) -> Result<(), NoMemory>
+        ensures { OnOk result ((world : model.World) → self.old ≡ shown world → MayFollow world line.now → self.new ≡ shown (model.after_line world line.now)) }
+    {
+        match line {
+            Line::Client(name) => self.client = Some(new_client(alloc, name)?),
+            Line::Open(_) => self.open(),
+            Line::Cut(_) => self.cut(),
+            Line::Act(_, command) => {
+                self.name_channel(alloc, channel_of(command))?;
+                self.act(alloc, command)?;
+            }
+            Line::Feed(channel, count, text) => {
+                self.name_channel(alloc, channel)?;
+                self.feed(alloc, *count, text)?;
+            }
+            Line::Settle => self.settle(alloc)?,
+        }
+        Ok(())
+    }
+
+    /// What the run shows.
+    pub fn findings(&self, alloc: Global) -> Result<Findings, NoMemory>
+        ensures { IfOk result (λ found. (script : List Line) → StandsFor self.now script → found ≡ findings (model.final script)) }
+    {
+        let head = self.machine.head().0;
+        let channels = channels_of(alloc, &self.channel, self.begun, &self.machine)?;
+        let clients = clients_of(alloc, &self.channel, &self.client, head)?;
+        Ok(Findings {
+            epoch: EPOCH,
+            channels,
+            clients,
+        })
+    }
+}
+
+/// Runs a script: the world that its lines make of an empty one. Of the script it needs that the entries that
+/// it feeds can be counted with 64 bits, as those of every script that was read can.
+pub fn run(alloc: Global, script: &Script) -> Result<World, NoMemory>
+    requires { fed script.now.lines < 2 ^ 64 }
+    ensures { IfOk result (λ world. StandsFor world script.now.lines) }
+{
+    let mut world = World::new(alloc);
+    for line in script.lines.as_slice() {
+        world.take_line(alloc, line)?;
+    }
+    Ok(world)
+}
