@@ -1,0 +1,124 @@
+// How a put is decided, rule by rule. An answer is given where the put adds no entry.
+ghost use Rattle.std.specs.Prelude.{◌≡◌, ◌↔◌, ◌∷◌, [], Bool, ℕ, IsTrue, take, length, find, reverse, option_map, Some};
+ghost use Rattle.std.specs.List.{list_all, list_any};
+ghost use Rattle.std.specs.Ordering.{nat_cmp};
+ghost use Rattle.std.specs.Map.{lookup};
+ghost use Rattle.std.specs.BTreeMap.{is_at};
+ghost use Rattle.rl_model.specs.Ids.{has_id, has_long_id, has_mixed_ids, is_long_id};
+ghost use Rattle.rl_model.specs.Verdict.{Judgement, has_given, judged_by_rules, judged_by_serial};
+ghost use Rattle.rl_plainchannel.specs.Steps.{settled, settled_by_serial, found_place};
+
+use crate::channel::Remembered;
+use rl_ids::{ConnNo, Place, Same, Text};
+use rl_types::{Body, Item, Outcome, Verdict, weight};
+use std::collections::BTreeMap;
+
+// 104: the body is too long, or an id.
+const TOO_LONG: u32 = 104;
+
+// 116: the log is full.
+const LOG_FULL: u32 = 116;
+
+// 113: some messages have an id and some do not.
+const BAD_IDS: u32 = 113;
+
+// How many of the entries that were added last have their ids remembered.
+const REMEMBERED: usize = 8192;
+
+// The answer to a serial that is not above the connection's last one.
+pub fn judged_by_serial(
+    outcomes: &BTreeMap<u32, (u64, Outcome)>,
+    conn: ConnNo,
+    serial: u64,
+) -> Option<Verdict>
+    ensures { result ≡ settled_by_serial serial (lookup (is_at (nat_cmp conn)) outcomes.now.entries) }
+{
+    let last = outcomes.get(&conn.0)?;
+    if serial < last.0 {
+        Some(Verdict::Old)
+    } else if serial == last.0 {
+        Some(Verdict::Done(last.1))
+    } else {
+        None
+    }
+}
+
+fn is_long_id(item: &Item) -> bool
+    ensures { result ≡ is_long_id item.now }
+{
+    match &item.id {
+        Some(id) => id.len() > 256,
+        None => false,
+    }
+}
+
+fn has_long_id(items: &[Item]) -> bool
+    ensures { result ≡ list_any is_long_id items.now }
+{
+    items.iter().any(|item| is_long_id(item))
+}
+
+fn has_id(item: &Item) -> bool
+    ensures { result ≡ has_id item.now }
+{
+    item.id.is_some()
+}
+
+fn some_have_ids(items: &[Item]) -> bool
+    ensures { result ≡ list_any has_id items.now }
+{
+    items.iter().any(|item| has_id(item))
+}
+
+fn all_have_ids(items: &[Item]) -> bool
+    ensures { result ≡ list_all has_id items.now }
+{
+    items.iter().all(|item| has_id(item))
+}
+
+// The code of the first rule that a body fails.
+pub fn judged_by_rules(head: u64, body: &Body) -> Option<Verdict>
+    ensures { result ≡ settled head (judged_by_rules head body.now) }
+{
+    let Body::Messages(items) = body;
+    let items = items.as_slice();
+    if weight(body) > 65_536 || has_long_id(items) {
+        Some(Verdict::Done(Outcome::Refused(TOO_LONG)))
+    } else if head == u64::MAX - 1 {
+        Some(Verdict::Done(Outcome::Refused(LOG_FULL)))
+    } else if some_have_ids(items) && !all_have_ids(items) {
+        Some(Verdict::Done(Outcome::Refused(BAD_IDS)))
+    } else {
+        None
+    }
+}
+
+fn was_given(one: &Remembered, id: &Text) -> bool
+    ensures { result ≡ has_given id.now one.now }
+{
+    match &one.id {
+        Some(other) => id.same(other),
+        None => false,
+    }
+}
+
+// The place of the last of these whose put gave this id.
+fn last_place(given: &[Remembered], id: &Text) -> Option<Place>
+    ensures { result ≡ found_place id.now (reverse given.now) }
+{
+    let mut found = None;
+    for one in given {
+        if was_given(one, id) {
+            found = Some(one.place);
+        }
+    }
+    found
+}
+
+// The place of the entry, among the last ones, whose put gave this id.
+pub fn remembered(given: &[Remembered], id: &Text) -> Option<Place>
+    ensures { result ≡ found_place id.now (take 8192 (reverse given.now)) }
+{
+    let from = given.len().saturating_sub(REMEMBERED);
+    last_place(&given[from..], id)
+}

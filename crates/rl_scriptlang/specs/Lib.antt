@@ -1,0 +1,6 @@
+pub mod Words
+pub mod Grammar
+pub mod Takes
+pub mod Numbers
+pub mod Seen
+pub mod Reads
