@@ -2,7 +2,7 @@
 use Rattle.std.proofs.Common.{◌≡◌, ℕ, List, [], ◌∷◌, ◌∙◌, sym, ap}
 use Rattle.std.specs.List.{slice_split}
 use Rattle.rl_model.specs.Script.{is_space, pub_line, feed_line}
-use Rattle.rl_scriptlang.proofs.Splits.{HasFirst, split_some}
+use Rattle.rl_scriptlang.proofs.Splits.{split_some}
 
 -- whatever the third token is
 pub pub_said : (tokens : List (List ℕ)) (text shown first second rest : List ℕ) → tokens ≡ first ∷ second ∷ slice_split is_space rest

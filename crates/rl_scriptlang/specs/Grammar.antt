@@ -1,7 +1,7 @@
 -- What reading a part of a script answers.
-use Rattle.std.specs.Prelude.{◌≡◌, ℕ, ⊤, Bool, true, false, if◌then◌else◌, List, [], length, Option, Some, None, Result, Ok, Err}
+use Rattle.std.specs.Prelude.{◌≡◌, ℕ, ⊤, true, false, if◌then◌else◌, List, [], length, Option, Some, None, Result, Ok, Err}
 use Rattle.std.specs.Borrow.{Bor}
-use Rattle.std.specs.List.{slice_split, after_first}
+use Rattle.std.specs.List.{slice_split}
 use Rattle.rl_types.specs.declared.script.ScriptCause.{ScriptCause}
 use Rattle.std.specs.Str.{is_utf8}
 use Rattle.rl_types.specs.declared.script.ScriptCause.TheVariants as cause

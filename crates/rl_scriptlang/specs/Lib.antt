@@ -1,4 +1,5 @@
 pub mod Words
+pub mod Faults
 pub mod Grammar
 pub mod Takes
 pub mod Numbers

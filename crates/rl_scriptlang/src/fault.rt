@@ -16,6 +16,11 @@ pub enum ScriptFault {
 }
 
 impl fmt::Display for ScriptFault {
+    ghost use Rattle.std.specs.Prelude.{Some};
+    ghost use Rattle.rl_scriptlang.specs.Faults.{fault_text};
+
+    ghost output = { λ e. Some (fault_text e) };
+
     fn fmt<W: fmt::Write>(&self, f: &mut fmt::Formatter<W>) -> fmt::Result {
         match self {
             ScriptFault::Refused { line, cause } => {

@@ -1,4 +1,4 @@
-use Rattle.std.proofs.Common.{◌≡◌, ℕ, Bool, cond, ltb, length, Option, Some, None, sym, ◌∙◌, ap, rules, tests, ◌∷◌, take, drop, ◌+◌, ◌-◌}
+use Rattle.std.proofs.Common.{◌≡◌, cond, ltb, length, Some, None, sym, ◌∙◌, ap, rules, tests, ◌∷◌, take, drop, ◌+◌, ◌-◌}
 use Rattle.std.specs.List.{position_or_len}
 use Rattle.std.specs.Str.Lines.{lines}
 use Rattle.std.proofs.lemmas.Iterator.{YieldsList-from_slice}

@@ -1,4 +1,4 @@
-use Rattle.std.proofs.Common.{◌≡◌, ◌++◌, ◌∷◌, [], rules, sym, ◌∙◌}
+use Rattle.std.proofs.Common.{◌≡◌, ◌++◌, ◌∷◌, [], rules}
 use Rattle.rl_model.specs.Script.{name_declared, channel_named, is_settle, fed_by}
 use Rattle.rl_scriptlang.specs.Seen.{kept_after, put_by}
 use Rattle.rl_scriptlang.proofs.Kept.{seen_after}
