@@ -1,7 +1,7 @@
 // The lines read so far, and what is kept of them.
-ghost use Rattle.std.specs.Prelude.{◌≡◌, ◌++◌, ◌∷◌, [], ◌+◌, ◌≤◌, ◌<◌, ◌^◌, ◌&&◌, ◌||◌, not, nat_le, IsTrue, ℕ, IfOk, option_to_list, OnErr, OnOk, Some};
+ghost use Rattle.std.specs.Prelude.{◌≡◌, ◌++◌, ◌∷◌, [], ◌+◌, ◌<◌, ◌^◌, ◌&&◌, ◌||◌, not, nat_le, IsTrue, IfOk, OnOk, Some};
 ghost use Rattle.std.specs.Option.{option_copied};
-ghost use Rattle.rl_model.specs.Script.{name_used, name_declared, channel_named, is_publish, fed_by, is_settle, is_cut, is_declared, may_declare, in_order, in_scope, is_first_client, is_only_channel, published, fed, ends_settled, placed, line_after, line_of};
+ghost use Rattle.rl_model.specs.Script.{name_declared, channel_named, fed_by, is_settle, is_cut, is_declared, may_declare, in_order, in_scope, is_first_client, is_only_channel, published, fed, ends_settled, placed, line_after, line_of};
 ghost use Rattle.rl_scriptlang.specs.Grammar.{Gives};
 ghost use Rattle.rl_scriptlang.specs.Seen.{lines_with, kept_after, put_by};
 
@@ -55,18 +55,6 @@ fn name_declared(line: &Line) -> Option<&Text>
 {
     match line {
         Line::Client(name) => Some(name),
-        _ => None,
-    }
-}
-
-// The client that a line names.
-fn name_used(line: &Line) -> Option<&Text>
-    ensures { option_copied result ≡ name_used line.now }
-{
-    match line {
-        Line::Open(name) => Some(name),
-        Line::Cut(name) => Some(name),
-        Line::Act(name, _) => Some(name),
         _ => None,
     }
 }

@@ -2,7 +2,7 @@
 ghost use Rattle.std.specs.Prelude.{◌≡◌, if◌then◌else◌, length, Ok, Err};
 ghost use Rattle.std.specs.List.{list_all};
 ghost use Rattle.rl_types.specs.declared.script.ScriptCause.TheVariants as cause;
-ghost use Rattle.rl_model.specs.Script.{is_between, is_digit, is_name_byte, is_channel_byte, is_name, is_channel};
+ghost use Rattle.rl_model.specs.Script.{is_between, is_name_byte, is_channel_byte, is_name, is_channel};
 ghost use Rattle.rl_scriptlang.specs.Grammar.{Gives};
 
 use crate::fault::LineFault;
