@@ -3,6 +3,7 @@ ghost use Rattle.std.specs.Option.{option_copied};
 ghost use Rattle.std.specs.Borrow.{sem};
 ghost use Rattle.std.specs.Fn.{CalledAt};
 ghost use Rattle.std.specs.List.Retain.{IsFiltered};
+ghost use Rattle.std.specs.List.Sorted.{IsStable};
 ghost use Rattle.rl_base.specs.Lends.{lends_item};
 ghost use Rattle.std.specs.Cmp.Lexicographic.{pointwise, slice_cmp, slice_partial_cmp, lists_per, lists_equiv, lists_po, lists_total, lists_agrees, lists_ties};
 
@@ -188,6 +189,7 @@ impl<T: Ord> List<T> {
     pub fn sort(&mut self) -> Result<(), NoMemory>
         ensures permutation { IsPermutation self.old self.new }
         ensures sorted { OnOk result (IsSorted T.cmp self.new) }
+        ensures stable { IsStable T.cmp self.old self.new }
         ensures err { OnErr result (self.new ≡ self.old) }
     {
         self.items.sort()?;
