@@ -1,5 +1,5 @@
 -- Steps of worlds.
-use Rattle.std.proofs.Common.{◌≡◌, ℕ, zero, suc, ◌+◌, ◌^◌, ◌<◌, Bool, true, false, List, [], ◌∷◌, refl, sym, ◌∙◌, ap, arith, add-one, zero-add, add-zero}
+use Rattle.std.proofs.Common.{◌≡◌, ℕ, zero, suc, ◌+◌, ◌^◌, ◌<◌, Bool, true, false, List, [], ◌∷◌, refl, sym, ◌∙◌, ap, subst, arith, add-one, zero-add, add-zero}
 use Rattle.std.specs.Prelude.{Option, Some, None, fold}
 use Rattle.rl_types.specs.declared.channel.ChannelEvent.{ChannelEvent}
 use Rattle.rl_types.specs.declared.channel.ChannelEvent.TheVariants.{Put}
@@ -33,7 +33,7 @@ module _ (world : World) (ready taken served done : WorldState) (sent : List Sen
     (finishes : (w : World) → served ≡ shown w → done ≡ shown (finish w w.client)) where
   served_from : (client : Client) → ready ≡ shown (with_client world client) → done ≡ shown (serve_all world client)
   served_from client is =
-      let took = takes world client is in
+      let took : TakesSent (shown (with_client world client)) taken sent = subst (λ (s : WorldState). TakesSent s taken sent) is takes in
       let start : World = with_client world (record client { sent = [] }) in
       let all : served ≡ shown (fold serve_next start client.sent) = serves start took.0 ∙ ap (λ xs. shown (fold serve_next start xs)) took.1 in
       finishes (fold serve_next start client.sent) all

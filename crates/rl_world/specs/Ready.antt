@@ -27,11 +27,13 @@ abbrev pub MakesReady : World → Option Client → WorldState → Bool → Type
 MakesReady world None new is = (is ≡ false) × (new ≡ shown world)
 MakesReady world (Some client) new is = IsReadyFrom client.conn world client new is
 
--- what the client of a world has sent is taken away
+abbrev pub TakesFrom : Option Client → WorldState → WorldState → List Sent → Type 0
+TakesFrom None old new sent = (new ≡ old) × (sent ≡ [])
+TakesFrom (Some client) old new sent = (new ≡ record old { client = Some (record client { sent = [] }) }) × (sent ≡ client.sent)
+
+-- what the client has sent is taken away: nothing, where there is no client
 abbrev pub TakesSent : WorldState → WorldState → List Sent → Type 0
-TakesSent old new sent =
-    (world : World) (client : Client) → old ≡ shown (with_client world client)
-    → (new ≡ shown (with_client world (record client { sent = [] }))) × (sent ≡ client.sent)
+TakesSent old new sent = TakesFrom old.client old new sent
 
 -- the acknowledgement of the client's message with this serial, or its refusal with this code
 abbrev pub acknowledgement : ℕ → Option ℕ → Answer
