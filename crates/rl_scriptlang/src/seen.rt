@@ -1,5 +1,5 @@
 // The lines read so far, and what is kept of them.
-ghost use Rattle.std.specs.Prelude.{◌≡◌, ◌++◌, ◌∷◌, [], ◌+◌, ◌<◌, ◌^◌, ◌&&◌, ◌||◌, not, nat_le, IsTrue, IfOk, OnOk, Some};
+ghost use Rattle.std.specs.Prelude.{◌≡◌, ◌≤◌, ◌++◌, ◌∷◌, [], ◌+◌, ◌<◌, ◌^◌, ◌&&◌, ◌||◌, not, nat_le, IsTrue, IfOk, OnOk, Some};
 ghost use Rattle.std.specs.Option.{option_copied};
 ghost use Rattle.rl_model.specs.Script.{name_declared, channel_named, fed_by, is_settle, is_cut, is_declared, may_declare, in_order, in_scope, is_first_client, is_only_channel, published, fed, ends_settled, placed, line_after, line_of};
 ghost use Rattle.rl_scriptlang.specs.Grammar.{Gives};
