@@ -1,7 +1,6 @@
 -- What a world shows.
-use Rattle.std.proofs.Common.{◌≡◌, ℕ, ◌-◌, ◌<◌, ◌≤◌, ◌^◌, Bool, true, false, List, [], ◌∷◌, length, refl, sym, ◌∙◌, ap, subst, arith, length-drop}
+use Rattle.std.proofs.Common.{◌≡◌, ℕ, ◌-◌, ◌≤◌, Bool, List, [], ◌∷◌, length, refl, sym, ◌∙◌, ap, subst, arith, length-drop}
 use Rattle.std.specs.Prelude.{Option, Some, None}
-use Rattle.std.specs.List.{AllByRecursion}
 use Rattle.rl_types.specs.declared.channel.ChannelEvent.{ChannelEvent}
 use Rattle.rl_types.specs.declared.findings.ChannelFindings.{ChannelFindings}
 use Rattle.rl_types.specs.declared.findings.ClientFindings.{ClientFindings}
@@ -16,8 +15,8 @@ use Rattle.rl_model.specs.Findings.{findings, channels_shown, clients_shown}
 use Rattle.rl_claims.specs.Sound.{IsSoundSegment, HasSoundRecord}
 use Rattle.rl_claims.proofs.Sound.{sound_records, each_weaker}
 use Rattle.rl_plainchannel.specs.State.{ChannelState, state_of}
-use Rattle.rl_world.specs.State.{WorldState, shown, is_begun, StandsFor}
-use Rattle.rl_world.specs.Ends.{EndBy, EndsBy}
+use Rattle.rl_world.specs.State.{WorldState, shown, is_begun}
+use Rattle.rl_world.specs.Ends.{EndsBy}
 use Rattle.rl_world.specs.Kept.{channels_kept}
 use Rattle.rl_world.proofs.Places.{length-numbered}
 

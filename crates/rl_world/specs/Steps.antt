@@ -1,5 +1,5 @@
 -- What a line makes of what is kept, where the channel machine has no part in it.
-use Rattle.std.specs.Prelude.{Option, option_map}
+use Rattle.std.specs.Prelude.{option_map}
 use Rattle.rl_types.specs.declared.script.Command.{Command}
 use Rattle.rl_types.specs.declared.states.ConnState.{ConnState}
 use Rattle.rl_model.specs.declared.plain.Client.{Client}

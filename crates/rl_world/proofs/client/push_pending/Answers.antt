@@ -1,4 +1,4 @@
-use Rattle.std.proofs.Common.{refl, sym, ◌∙◌, ap, arith, length, ◌++◌, drop, ◌≡◌}
+use Rattle.std.proofs.Common.{refl, sym, ◌∙◌, ap, length, ◌++◌, drop, ◌≡◌}
 use Rattle.std.specs.Prelude.{Some, slice_get}
 use Rattle.std.proofs.lemmas.Option.{slice_get_read}
 use Rattle.rl_model.specs.Client.{numbered}

@@ -1,4 +1,4 @@
-use Rattle.std.proofs.Common.{ap, subst, sym, ◌<◌, ◌^◌, List}
+use Rattle.std.proofs.Common.{subst, sym, ◌<◌, ◌^◌, List}
 use Rattle.rl_types.specs.declared.script.Line.{Line}
 use Rattle.rl_model.specs.Script.{fed}
 use Rattle.rl_world.proofs.Fed.{run_step}

@@ -1,4 +1,4 @@
-use Rattle.std.proofs.Common.{◌∙◌, sym, ap, subst, ◌∷◌, ◌≡◌, List}
+use Rattle.std.proofs.Common.{◌∙◌, subst, ◌∷◌, List}
 use Rattle.rl_types.specs.declared.channel.ChannelEvent.{ChannelEvent}
 use Rattle.rl_types.specs.declared.channel.ChannelEvent.TheVariants.{Put}
 use Rattle.rl_types.specs.declared.messages.Body.{Body}

@@ -1,4 +1,4 @@
-use Rattle.std.proofs.Common.{◌∙◌, sym, ap}
+use Rattle.std.proofs.Common.{◌∙◌}
 use Rattle.rl_world.proofs.Shown.{found}
 use Rattle.rl_world.proofs.world.World.findings.Goals as goal
 

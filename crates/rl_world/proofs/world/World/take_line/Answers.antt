@@ -1,8 +1,3 @@
-use Rattle.std.proofs.Common.{◌+◌, ◌<◌, ◌^◌, subst, sym, ◌≡◌}
-use Rattle.rl_types.specs.declared.script.Line.{Line}
-use Rattle.rl_model.specs.World.{after_line}
-use Rattle.rl_model.specs.Script.{fed_by}
-use Rattle.rl_world.specs.State.{shown}
 use Rattle.rl_world.proofs.Worlds.{named_and_fed}
 use Rattle.rl_world.proofs.world.World.take_line.Goals as goal
 
