@@ -78,10 +78,10 @@ fn puts_are_answered_by_serial_and_id(rt: HostRuntime) -> Result<(), Fail> {
         (1, 6, "", taken(4)),
     ];
     let mut channel = PlainChannel::new(rt.alloc(), Epoch(1));
-    for (at, (conn, serial, id, wanted)) in rows.into_iter().enumerate() {
+    for (conn, serial, id, wanted) in rows {
         let body = single(rt.alloc(), id, "p")?;
         let answer = channel.put(rt.alloc(), ConnNo(conn), serial, body, Moment(0))?;
-        assert_eq!(rt; answer, wanted, "at row {at}");
+        assert_eq!(rt; answer, wanted, "at {conn} {serial} {id}");
     }
     assert_eq!(rt; channel.head(), Place(4));
     assert_eq!(rt; channel.first(), Place(1));
@@ -134,10 +134,10 @@ fn a_put_with_some_ids_is_refused(rt: HostRuntime) -> Result<(), Fail> {
         (2, "m", "n", taken(1)),
     ];
     let mut channel = PlainChannel::new(rt.alloc(), Epoch(1));
-    for (at, (serial, first, second, wanted)) in rows.into_iter().enumerate() {
+    for (serial, first, second, wanted) in rows {
         let body = pair(rt.alloc(), first, second)?;
         let answer = channel.put(rt.alloc(), ConnNo(1), serial, body, Moment(0))?;
-        assert_eq!(rt; answer, wanted, "at row {at}");
+        assert_eq!(rt; answer, wanted, "at {serial} {first} {second}");
     }
     assert_eq!(rt; channel.head(), Place(1));
     Ok(())
