@@ -12,6 +12,7 @@ use Rattle.rl_model.specs.Script.{Refusal, is_too_long, script_of, line_count, e
 use Rattle.rl_model.specs.World.{final}
 use Rattle.rl_claims.proofs.Sound.{sound_records}
 use Rattle.rl_claims.proofs.Once.{once_by_id}
+use Rattle.rl_claims.proofs.Opened.{opens_again_only_after_leaving}
 use Rattle.rl_world.specs.State.{WorldState}
 use Rattle.rlscript.specs.Stages.{Said, SaidFor, Ran, HandsOn}
 use Rattle.rlscript.specs.Top.{Outside, SourceFailed, SinkFailed, WroteFront, TookFrom, TookAll, Tells, TookTooMuch, IsToBeWritten, IsWorldOf, Ends, usage, read_fault, too_long, refusal, script_report, text_by, status_by, status_of}
@@ -236,7 +237,7 @@ module _ (o : Outside) (status : ℕ) (world : Option WorldState) (bytes : List 
 
   reported_ends : (script : List Line) → script_of bytes ≡ Ok script → Said status 0 o.written o.written_after o.write_faults o.write_faults_after (script_report script) → HandsOn status world script → Ends true o status world
   reported_ends script reads (inl said) hands = record {
-    reported = λ _ tells. record { bytes = bytes; script = script; took = all_taken tells; fits = fits; reads = reads; wrote = said.1; sound = sound_records script; once = once_by_id (final script).past; handed_on = hands.given said.0 };
+    reported = λ _ tells. record { bytes = bytes; script = script; took = all_taken tells; fits = fits; reads = reads; wrote = said.1; sound = sound_records script; reopened = opens_again_only_after_leaving script; once = once_by_id (final script).past; handed_on = hands.given said.0 };
     handed_on = λ _. some_world script world (hands.given said.0);
     kept_back = hands.kept_back;
     usage = λ other. absurd (omega (arith, said.0));

@@ -9,7 +9,7 @@ use Rattle.rl_model.specs.World.{final}
 use Rattle.rl_model.specs.Findings.{findings}
 use Rattle.rl_model.specs.Report.{report}
 use Rattle.rl_model.specs.Script.{is_too_long, script_of, Refusal}
-use Rattle.rl_claims.specs.Sound.{HasSoundRecords}
+use Rattle.rl_claims.specs.Sound.{HasSoundRecords, OpensAgainOnlyAfterLeaving}
 use Rattle.rl_claims.specs.Once.{OnceById}
 use Rattle.rl_scriptlang.specs.Words.{cause_word}
 use Rattle.rl_world.specs.State.{WorldState, StandsFor}
@@ -92,8 +92,9 @@ abbrev pub IsWorldOf : Option WorldState → List Line → Type 0
 IsWorldOf None script = ⊥
 IsWorldOf (Some world) script = StandsFor world script
 
--- 0: the source was read to its end, and the report of its script was written; every record is sound, a
--- remembered id stands once, and the world handed on is the script's
+-- 0: the source was read to its end, and the report of its script was written; every record is sound, a later
+-- segment is opened only after the channel was left, a remembered id stands once, and the world handed on is
+-- the script's
 pub record Reports (o : Outside) (world : Option WorldState) : Type 0 where
   pub bytes : List ℕ
   pub script : List Line
@@ -102,6 +103,7 @@ pub record Reports (o : Outside) (world : Option WorldState) : Type 0 where
   pub reads : script_of bytes ≡ Ok script
   pub wrote : Wrote o (script_report script)
   pub sound : HasSoundRecords (final script)
+  pub reopened : OpensAgainOnlyAfterLeaving script
   pub once : OnceById (final script).past
   pub handed_on : IsWorldOf world script
 

@@ -4,6 +4,8 @@
 
 mod input;
 mod stages;
+#[cfg(test)]
+mod tests;
 mod top;
 
 use rl_outside::{ReaderSource, WriterSink};
