@@ -1,3 +1,4 @@
 pub mod Once
+pub mod Opened
 pub mod Runs
 pub mod Sound

@@ -101,13 +101,14 @@ abbrev pub IsLeftAt : ℕ → Option Client → Type 0
 IsLeftAt count None = ⊥
 IsLeftAt count (Some client) = (length client.segments ≡ count) × HasLeft client.chan
 
+abbrev pub IsOpened : Option Segment → Type 0
+IsOpened None = ⊥
+IsOpened (Some segment) = segment.cause ≡ Opened
+
+-- a client whose segment at this place, from 0, is Opened
 abbrev pub OpenedAt : ℕ → Option Client → Type 0
 OpenedAt place None = ⊥
-OpenedAt place (Some client) = SomeOf (λ (segment : Segment). segment.cause ≡ Opened) (option_list (slice_get client.segments place))
-  where
-    option_list : Option Segment → List Segment
-    option_list None = []
-    option_list (Some segment) = segment ∷ []
+OpenedAt place (Some client) = IsOpened (slice_get client.segments place)
 
 -- a later segment is Opened only where, since the segment before began, the channel was DETACHED, SUSPENDED or
 -- FAILED: after some of the script's lines there are as many segments as stand before it, and the channel is left

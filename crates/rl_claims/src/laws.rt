@@ -4,7 +4,7 @@ ghost use Rattle.rl_types.specs.declared.channel.ChannelEvent.{ChannelEvent};
 ghost use Rattle.rl_types.specs.declared.script.Line.{Line};
 ghost use Rattle.rl_model.specs.World.{final};
 ghost use Rattle.rl_claims.specs.Once.{OnceById};
-ghost use Rattle.rl_claims.specs.Sound.{HasSoundRecords};
+ghost use Rattle.rl_claims.specs.Sound.{HasSoundRecords, OpensAgainOnlyAfterLeaving};
 
 /// Two entries with one given id stand more than 8,192 places apart, whatever a channel takes.
 #[tactic(auto, using(crate::proofs::Once::once_by_id))]
@@ -18,4 +18,12 @@ pub fn once_by_id()
 #[tactic(auto, using(crate::proofs::Sound::sound_records))]
 pub fn sound_records()
     ensures { (script : List Line) → HasSoundRecords (final script) }
+{}
+
+/// A segment behind the first is Opened only where the channel was DETACHED, SUSPENDED or FAILED since the
+/// segment before it began: a client that got a segment attaches with the serial that it holds. For the lines
+/// that scripts have now the proof shows more: no segment behind the first is Opened at all.
+#[tactic(auto, using(crate::proofs::Opened::opens_again_only_after_leaving))]
+pub fn opens_again_only_after_leaving()
+    ensures { (script : List Line) → OpensAgainOnlyAfterLeaving script }
 {}
