@@ -6,7 +6,8 @@ use std::alloc::Global;
 
 const HELLO: &str = "client A\nopen A\nattach A room\npub A room hi\nsettle\n";
 
-const HELLO_REPORT: &str = "report\nchannel room first 1 head 1\nentry 1 0 c00000001 0 message | \"c00000001:0:0\" - \"hi\"\nclient A connected c00000001 pending 0 dropped 0\nack c00000001 0\nrecord room attached 1\nsegment 0 opened\ngot 1 message | \"c00000001:0:0\" - \"hi\"\nmembers room yes\nobjects room yes\nmap root 0\nend\n";
+const HELLO_REPORT: &str =
+    "report\nchannel room first 1 head 1\nentry 1 0 c00000001 0 message | \"c00000001:0:0\" - \"hi\"\nclient A connected c00000001 pending 0 dropped 0\nack c00000001 0\nrecord room attached 1\nsegment 0 opened\ngot 1 message | \"c00000001:0:0\" - \"hi\"\nmembers room yes\nobjects room yes\nmap root 0\nend\n";
 
 const USAGE: &str = "usage: rlscript [run | gen SEED CLIENTS STEPS]\n";
 
@@ -36,12 +37,19 @@ fn is_met(alloc: Global, row: &Row) -> Result<bool, NoMemory> {
     let mut source = MemSource::new(alloc, row.script.as_bytes(), piece, &[row.failing_read])?;
     let mut sink = MemSink::new(alloc, &[row.failing_write])?;
     let end = script_top(alloc, &words, &mut source, &mut sink);
-    Ok(end.status == row.status
-        && end.world.is_some() == (row.status == 0)
-        && sink.as_slice() == row.written.as_bytes())
+    Ok(
+        end.status == row.status
+            && end.world.is_some() == (row.status == 0)
+            && sink.as_slice() == row.written.as_bytes(),
+    )
 }
 
-const fn make_row(words: &'static [&'static str], script: &'static str, status: u8, written: &'static str) -> Row {
+const fn make_row(
+    words: &'static [&'static str],
+    script: &'static str,
+    status: u8,
+    written: &'static str,
+) -> Row {
     Row {
         words,
         script,
