@@ -1,4 +1,4 @@
-use Rattle.std.proofs.Common.{arith, rules, ◌++◌, length, drop, replicate, List, ℕ}
+use Rattle.std.proofs.Common.{rules, length, drop, replicate, List, ℕ}
 use Rattle.std.proofs.Math.Seq.{take-append_seam}
 use Rattle.rl_base.specs.Padded.{IsPadded-written}
 use Rattle.rl_base.proofs.code.Code.from_text.Goals as goal
