@@ -1,5 +1,5 @@
 -- What a channel answers to a Put, and the log that it keeps.
-use Rattle.std.specs.Prelude.{ℕ, ◌+◌, ◌-◌, ◌^◌, Bool, true, false, ◌||◌, if◌then◌else◌, ◌==◌, nat_lt, List, [], ◌∷◌, ◌++◌, length, take, drop, find, filter_map, Option, Some, None, option_and_then, option_map, option_to_list, bytes_eq}
+use Rattle.std.specs.Prelude.{ℕ, ◌+◌, ◌-◌, ◌^◌, Bool, false, ◌||◌, if◌then◌else◌, ◌==◌, nat_lt, List, [], ◌∷◌, ◌++◌, length, take, drop, find, filter_map, Option, Some, None, option_and_then, option_map, option_to_list, bytes_eq}
 use Rattle.rl_types.specs.declared.channel.ChannelEvent.{ChannelEvent}
 use Rattle.rl_types.specs.declared.channel.ChannelEvent.TheVariants.{Put, Gone}
 use Rattle.rl_types.specs.declared.channel.Verdict.{Verdict}
