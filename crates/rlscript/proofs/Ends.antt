@@ -2,7 +2,7 @@
 use Rattle.std.proofs.Common.{◌≡◌, inl, inr, ℕ, ◌+◌, ◌-◌, ◌≤◌, Bool, true, false, cond, List, [], ◌∷◌, ◌++◌, length, refl, sym, ◌∙◌, ap, subst, arith, not, ◌||◌, length-append, append_assoc, zero-add}
 use Rattle.std.proofs.lemmas.Bool.Decides.{nat_tests}
 use Rattle.std.proofs.lemmas.List.Sums.{sum_by-append}
-use Rattle.std.specs.Prelude.{is_some, slice_get, count_by, nat_lt, Option, Some, None, Result, Ok, Err, IsTrue, IsFalse, IsSome, IfSome, ◌≢◌}
+use Rattle.std.specs.Prelude.{is_some, slice_get, count_by, nat_lt, Option, Some, None, Result, Ok, Err, IsTrue, IsFalse, IsSome, IfSome}
 use Rattle.std.specs.Io.KnownBytes.{Consumes, Keeps, IsAtEnd}
 use Rattle.std.proofs.lemmas.List.{append_cancel_right}
 use Rattle.std.proofs.KnownBytes.{Keeps-refl}
