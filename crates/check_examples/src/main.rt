@@ -23,10 +23,12 @@ fn report_of(alloc: Global, script: &str) -> Result<Blob> {
 }
 
 fn is_as_expected<R: Files + AllocGlobal>(rt: &R, name: &str) -> Result<bool> {
-    let script = fs::read_to_string(rt, format!(in rt.alloc(); "{name}.script")?)
-        .context("reading the script")?;
-    let expected = fs::read_to_string(rt, format!(in rt.alloc(); "{name}.report")?)
-        .context("reading the report")?;
+    let script = fs::read_to_string(rt, format!(in rt.alloc(); "{name}.script")?).context(
+        "reading the script",
+    )?;
+    let expected = fs::read_to_string(rt, format!(in rt.alloc(); "{name}.report")?).context(
+        "reading the report",
+    )?;
     let found = report_of(rt.alloc(), script.as_str())?;
     Ok(found.as_slice() == expected.as_bytes())
 }

@@ -1,0 +1,12 @@
+//! Tests that cross crates, of what no contract says: above all that each call which may answer want of memory
+//! answers otherwise where memory is ample. The examples' whole reports are compared by `check_examples`.
+#![tactic(auto)]
+
+#[cfg(test)]
+mod base;
+#[cfg(test)]
+mod channels;
+#[cfg(test)]
+mod data;
+#[cfg(test)]
+mod scripts;
