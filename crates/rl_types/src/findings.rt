@@ -1,5 +1,5 @@
 //! What a run shows, in the order in which a report prints it.
-use crate::{Body, ChanState, ConnState, Entry, Given};
+use crate::{Body, ChanState, ConnState, Entry, Given, PresenceItem};
 use rl_ids::{ChannelSerial, Copied, Epoch, List, NoMemory, Place, Text};
 use std::alloc::Global;
 
@@ -64,6 +64,8 @@ pub struct ChannelView {
     pub runs: Record,
     /// Whether the members shown are all of them.
     pub members_whole: bool,
+    /// The members that the client knows, in order of connection id, then client id.
+    pub members: List<PresenceItem>,
     /// Whether the objects shown are all of them.
     pub objects_whole: bool,
 }
@@ -161,6 +163,7 @@ impl Copied for ChannelView {
             held: self.held,
             runs: self.runs.copy(alloc)?,
             members_whole: self.members_whole,
+            members: self.members.copy(alloc)?,
             objects_whole: self.objects_whole,
         })
     }

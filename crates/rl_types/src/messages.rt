@@ -1,3 +1,4 @@
+use crate::PresenceItem;
 use rl_ids::{ChannelSerial, ConnNo, Copied, List, Moment, NoMemory, Place, Text};
 use std::alloc::Global;
 
@@ -19,7 +20,10 @@ pub struct Item {
 /// What an entry carries, and what a client puts.
 #[derive(Debug, Drop, PartialEq, Eq)]
 pub enum Body {
+    /// Messages (RTL6).
     Messages(List<Item>),
+    /// What is told of members (RTP8).
+    Presence(List<PresenceItem>),
 }
 
 /// An entry of a channel's log.
@@ -59,6 +63,7 @@ impl Copied for Body {
     fn copy(&self, alloc: Global) -> Result<Body, NoMemory> {
         match self {
             Body::Messages(items) => Ok(Body::Messages(items.copy(alloc)?)),
+            Body::Presence(items) => Ok(Body::Presence(items.copy(alloc)?)),
         }
     }
 }
