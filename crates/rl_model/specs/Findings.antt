@@ -33,7 +33,7 @@ abbrev pub held_serial : Option Given → Option ChannelSerial
 held_serial (Some (Ours serial)) = Some serial
 held_serial _ = None
 
--- members and objects are whole exactly where the channel is attached
+-- members and objects are whole exactly where the channel is attached. No script makes a member yet
 abbrev pub is_attached : ChanState → Bool
 is_attached Attached = true
 is_attached _ = false
@@ -46,6 +46,7 @@ view_of name client =
       held = held_serial (held client);
       runs = record { segments = client.segments };
       members_whole = is_attached client.chan;
+      members = [];
       objects_whole = is_attached client.chan;
     }
 

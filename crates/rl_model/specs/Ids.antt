@@ -1,9 +1,11 @@
--- The ids of messages (TM2a; RSL1k).
-use Rattle.std.specs.Prelude.{ℕ, suc, Bool, ◌&&◌, not, nat_lt, List, [], ◌∷◌, Option, Some, None, is_some}
+-- The ids of messages (TM2a; RSL1k) and of presence items (TP3a), and how long what is put may be.
+use Rattle.std.specs.Prelude.{ℕ, suc, Bool, false, ◌&&◌, ◌||◌, not, nat_lt, List, [], ◌∷◌, length, Option, Some, None, is_some}
 use Rattle.std.specs.List.{list_all, list_any}
+use Rattle.rl_ids.specs.Forms.{conn_text}
 use Rattle.rl_types.specs.declared.messages.Item.{Item}
+use Rattle.rl_types.specs.declared.presence.PresenceItem.{PresenceItem}
 use Rattle.rl_types.specs.declared.messages.Body.{Body}
-use Rattle.rl_types.specs.declared.messages.Body.TheVariants.{Messages}
+use Rattle.rl_types.specs.declared.messages.Body.TheVariants.{Messages, Presence}
 use Rattle.rl_types.specs.Weight.{option_len}
 use Rattle.rl_model.specs.Texts.{made_id}
 
@@ -11,20 +13,27 @@ use Rattle.rl_model.specs.Texts.{made_id}
 abbrev pub given_id : Body → Option (List ℕ)
 given_id (Messages []) = None
 given_id (Messages (item ∷ items)) = item.id
+given_id (Presence items) = None
 
 abbrev pub has_id : Item → Bool
 has_id item = is_some item.id
 
 -- some messages have an id and some do not
-abbrev pub has_mixed_ids : Body → Bool
-has_mixed_ids (Messages items) = list_any has_id items && not (list_all has_id items)
+abbrev pub has_mixed_ids : List Item → Bool
+has_mixed_ids items = list_any has_id items && not (list_all has_id items)
 
 abbrev pub is_long_id : Item → Bool
 is_long_id item = nat_lt 256 (option_len item.id)
 
--- some message's id has more than 256 bytes
-abbrev pub has_long_id : Body → Bool
-has_long_id (Messages items) = list_any is_long_id items
+-- a client id or an encoding of more than 256 bytes, or data of more than 4,096
+abbrev pub is_long_presence : PresenceItem → Bool
+is_long_presence item =
+    nat_lt 256 (length item.client) || nat_lt 256 (option_len item.encoding) || nat_lt 4096 (option_len item.payload)
+
+-- some message's id has more than 256 bytes, or some presence item is too long
+abbrev pub has_long : Body → Bool
+has_long (Messages items) = list_any is_long_id items
+has_long (Presence items) = list_any is_long_presence items
 
 abbrev pub filled_id : ℕ → ℕ → ℕ → Option (List ℕ) → List ℕ
 filled_id conn serial index (Some id) = id
@@ -36,6 +45,14 @@ filled_items conn serial index [] = []
 filled_items conn serial index (item ∷ items) =
     record item { id = Some (filled_id conn serial index item.id) } ∷ filled_items conn serial (suc index) items
 
--- a body as an entry has it: each message with an id
-abbrev pub filled : ℕ → ℕ → Body → Body
-filled conn serial (Messages items) = Messages (filled_items conn serial 0 items)
+-- the presence items, counted from an index, each with the id, the connection and the stamp of its Put,
+-- whatever it was given
+abbrev pub filled_presence : ℕ → ℕ → ℕ → ℕ → List PresenceItem → List PresenceItem
+filled_presence conn serial now index [] = []
+filled_presence conn serial now index (item ∷ items) =
+    record item { id = made_id conn serial index; conn = conn_text conn; stamp = now } ∷ filled_presence conn serial now (suc index) items
+
+-- a body as an entry with this stamp has it
+abbrev pub filled : ℕ → ℕ → ℕ → Body → Body
+filled conn serial now (Messages items) = Messages (filled_items conn serial 0 items)
+filled conn serial now (Presence items) = Presence (filled_presence conn serial now 0 items)

@@ -11,3 +11,4 @@ pub mod Findings
 pub mod Report
 pub mod Script
 pub mod Examples
+pub mod Limits

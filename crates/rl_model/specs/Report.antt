@@ -4,8 +4,11 @@ use Rattle.rl_base.specs.Digits.{fixed_text}
 use Rattle.rl_ids.specs.Forms.{conn_text}
 use Rattle.rl_ids.specs.declared.serials.ChannelSerial.{ChannelSerial}
 use Rattle.rl_types.specs.declared.messages.Item.{Item}
+use Rattle.rl_types.specs.declared.presence.PresenceItem.{PresenceItem}
+use Rattle.rl_types.specs.declared.presence.PresenceAction.{PresenceAction}
+use Rattle.rl_types.specs.declared.presence.PresenceAction.TheVariants as presence
 use Rattle.rl_types.specs.declared.messages.Body.{Body}
-use Rattle.rl_types.specs.declared.messages.Body.TheVariants.{Messages}
+use Rattle.rl_types.specs.declared.messages.Body.TheVariants.{Messages, Presence}
 use Rattle.rl_types.specs.declared.messages.Entry.{Entry}
 use Rattle.rl_types.specs.declared.messages.Given.{Given}
 use Rattle.rl_types.specs.declared.messages.Given.TheVariants.{Ours, Other}
@@ -62,8 +65,19 @@ text_or_dash (Some text) = text
 abbrev pub item_words : Item → List (List ℕ)
 item_words item = codes "|" ∷ quoted_or_dash item.id ∷ quoted_or_dash item.name ∷ quoted_or_dash item.payload ∷ []
 
+abbrev pub action_word : PresenceAction → List ℕ
+action_word presence.Absent = codes "absent"
+action_word presence.Present = codes "present"
+action_word presence.Enter = codes "enter"
+action_word presence.Leave = codes "leave"
+action_word presence.Update = codes "update"
+
+abbrev pub presence_words : PresenceItem → List (List ℕ)
+presence_words item = codes "|" ∷ action_word item.action ∷ quoted item.client ∷ quoted_or_dash item.payload ∷ []
+
 abbrev pub body_words : Body → List (List ℕ)
 body_words (Messages items) = codes "message" ∷ flat_map item_words items
+body_words (Presence items) = codes "presence" ∷ flat_map presence_words items
 
 -- CHANNELS
 
@@ -133,12 +147,16 @@ abbrev pub yes_or_no : Bool → List ℕ
 yes_or_no true = codes "yes"
 yes_or_no false = codes "no"
 
--- no script makes a member or an object yet: only the root is there, which is an empty map
+abbrev pub member_line : PresenceItem → List ℕ
+member_line member = line (codes "member") (member.conn ∷ quoted member.client ∷ quoted_or_dash member.payload ∷ [])
+
+-- no script makes an object yet: only the root is there, which is an empty map
 abbrev pub view_lines : ℕ → ChannelView → List ℕ
 view_lines epoch view =
     line (codes "record") (view.name ∷ chan_word view.state ∷ held_word view.held ∷ [])
     ++ flat_map (segment_lines epoch) view.runs.segments
     ++ line (codes "members") (view.name ∷ yes_or_no view.members_whole ∷ [])
+    ++ flat_map member_line view.members
     ++ line (codes "objects") (view.name ∷ yes_or_no view.objects_whole ∷ [])
     ++ codes "map root 0\n"
 

@@ -1,5 +1,6 @@
 -- What a channel answers to a Put, and the log that it keeps.
-use Rattle.std.specs.Prelude.{ℕ, ◌+◌, ◌-◌, ◌^◌, Bool, false, ◌||◌, if◌then◌else◌, ◌==◌, nat_lt, List, [], ◌∷◌, ◌++◌, length, take, drop, find, filter_map, Option, Some, None, option_and_then, option_map, option_to_list, bytes_eq}
+use Rattle.std.specs.Prelude.{ℕ, ◌+◌, ◌-◌, ◌^◌, Bool, true, false, ◌||◌, not, if◌then◌else◌, ◌==◌, nat_lt, List, [], ◌∷◌, ◌++◌, length, take, drop, find, filter_map, Option, Some, None, option_and_then, option_map, option_to_list, bytes_eq}
+use Rattle.std.specs.List.{list_any}
 use Rattle.rl_types.specs.declared.channel.ChannelEvent.{ChannelEvent}
 use Rattle.rl_types.specs.declared.channel.ChannelEvent.TheVariants.{Put, Gone}
 use Rattle.rl_types.specs.declared.channel.Verdict.{Verdict}
@@ -8,8 +9,12 @@ use Rattle.rl_types.specs.declared.channel.Outcome.{Outcome}
 use Rattle.rl_types.specs.declared.channel.Outcome.TheVariants.{Taken, Refused}
 use Rattle.rl_types.specs.declared.messages.Entry.{Entry}
 use Rattle.rl_types.specs.declared.messages.Body.{Body}
+use Rattle.rl_types.specs.declared.messages.Body.TheVariants.{Messages, Presence}
+use Rattle.rl_types.specs.declared.presence.PresenceItem.{PresenceItem}
+use Rattle.rl_types.specs.declared.presence.PresenceAction.{PresenceAction}
+use Rattle.rl_types.specs.declared.presence.PresenceAction.TheVariants as presence
 use Rattle.rl_types.specs.Weight.{body_weight}
-use Rattle.rl_model.specs.Ids.{given_id, has_mixed_ids, has_long_id, filled}
+use Rattle.rl_model.specs.Ids.{given_id, has_mixed_ids, has_long, filled}
 use Rattle.rl_model.specs.History.{clock}
 
 -- DECISIONS
@@ -85,13 +90,37 @@ pub data Judgement : Type 0 where
   Fails : (code : ℕ) → Judgement  -- the code of the first rule that it fails
   Adds : Judgement  -- it adds an entry
 
--- 104 TooLong, 116 LogFull, 113 BadIds; else it adds
+-- a member enters, leaves or changes
+abbrev pub is_put : PresenceAction → Bool
+is_put presence.Enter = true
+is_put presence.Leave = true
+is_put presence.Update = true
+is_put _ = false
+
+abbrev pub is_bad_action : PresenceItem → Bool
+is_bad_action item = not (is_put item.action)
+
+abbrev pub has_no_client : PresenceItem → Bool
+has_no_client item = length item.client == 0
+
+-- the code of the first rule on its own kind that a body fails: 113 BadIds; 115 BadAction, 114 NoClientId
+abbrev pub failed_rule : Body → Option ℕ
+failed_rule (Messages items) = if has_mixed_ids items then Some 113 else None
+failed_rule (Presence items) =
+    if list_any is_bad_action items then Some 115
+    else if list_any has_no_client items then Some 114
+    else None
+
+abbrev pub fails_or_adds : Option ℕ → Judgement
+fails_or_adds (Some code) = Fails code
+fails_or_adds None = Adds
+
+-- 104 TooLong, 116 LogFull, the rules on its kind; else it adds
 abbrev pub judged_by_rules : ℕ → Body → Judgement
 judged_by_rules head body =
-    if nat_lt 65536 (body_weight body) || has_long_id body then Fails 104
+    if nat_lt 65536 (body_weight body) || has_long body then Fails 104
     else if head == 2 ^ 64 - 2 then Fails 116
-    else if has_mixed_ids body then Fails 113
-    else Adds
+    else fails_or_adds (failed_rule body)
 
 abbrev pub judged_by_id : ℕ → Body → Option ℕ → Judgement
 judged_by_id head body (Some place) = Known place
@@ -127,7 +156,7 @@ entry_if _ entry = None
 -- the entry that a Put adds: at the next place, with the clock of its event
 abbrev pub entry_of : ℕ → ℕ → ℕ → ℕ → Body → Entry
 entry_of head now conn serial body =
-    record { place = head + 1; stamp = now; conn = conn; serial = Some serial; body = filled conn serial body }
+    record { place = head + 1; stamp = now; conn = conn; serial = Some serial; body = filled conn serial now body }
 
 -- an event with the clock after it, decided after these decisions
 abbrev pub decided : ℕ → List Decision → ChannelEvent → Decision

@@ -207,7 +207,7 @@ impl PlainChannel {
         let place = Place(self.entries.as_slice().len() as u64 + 1);
         let stamp = self.clock_at(now);
         let id = copied_id(alloc, &body)?;
-        let body = filled(alloc, conn, serial, body)?;
+        let body = filled(alloc, conn, serial, stamp, body)?;
         let weighs = self.weight + u128::from(weight(&body));
         let entry = Entry {
             place,

@@ -4,16 +4,17 @@ ghost use Rattle.std.specs.List.{list_all, list_any};
 ghost use Rattle.std.specs.Ordering.{nat_cmp};
 ghost use Rattle.std.specs.Map.{lookup};
 ghost use Rattle.std.specs.BTreeMap.{is_at};
-ghost use Rattle.rl_model.specs.Ids.{has_id, has_long_id, has_mixed_ids, is_long_id};
-ghost use Rattle.rl_model.specs.Verdict.{Judgement, has_given, judged_by_rules, judged_by_serial};
+ghost use Rattle.rl_types.specs.Weight.{option_len};
+ghost use Rattle.rl_model.specs.Ids.{has_id, has_long, has_mixed_ids, is_long_id, is_long_presence};
+ghost use Rattle.rl_model.specs.Verdict.{Judgement, failed_rule, has_given, has_no_client, is_bad_action, judged_by_rules, judged_by_serial};
 ghost use Rattle.rl_plainchannel.specs.Steps.{settled, settled_by_serial, found_place};
 
 use crate::channel::Remembered;
 use rl_ids::{ConnNo, Place, Same, Text};
-use rl_types::{Body, Item, Outcome, Verdict, weight};
+use rl_types::{Body, Item, Outcome, PresenceAction, PresenceItem, Verdict, weight};
 use std::collections::BTreeMap;
 
-// 104: the body is too long, or an id.
+// 104: the body is too long, or an id, or another text of it.
 const TOO_LONG: u32 = 104;
 
 // 116: the log is full.
@@ -21,6 +22,12 @@ const LOG_FULL: u32 = 116;
 
 // 113: some messages have an id and some do not.
 const BAD_IDS: u32 = 113;
+
+// 114: a presence item has no client id.
+const NO_CLIENT_ID: u32 = 114;
+
+// 115: a presence item neither enters, leaves nor changes a member.
+const BAD_ACTION: u32 = 115;
 
 // How many of the entries that were added last have their ids remembered.
 const REMEMBERED: usize = 8192;
@@ -52,10 +59,41 @@ fn is_long_id(item: &Item) -> bool
     }
 }
 
+fn length_of(text: &Option<Text>) -> usize
+    ensures { result ≡ option_len text.now }
+{
+    match text {
+        Some(text) => text.len(),
+        None => 0,
+    }
+}
+
+fn is_long_presence(item: &PresenceItem) -> bool
+    ensures { result ≡ is_long_presence item.now }
+{
+    item.client.len() > 256 || length_of(&item.encoding) > 256 || length_of(&item.payload) > 4096
+}
+
 fn has_long_id(items: &[Item]) -> bool
     ensures { result ≡ list_any is_long_id items.now }
 {
     items.iter().any(|item| is_long_id(item))
+}
+
+fn has_long_item(items: &[PresenceItem]) -> bool
+    ensures { result ≡ list_any is_long_presence items.now }
+{
+    items.iter().any(|item| is_long_presence(item))
+}
+
+// Whether some id of the body, or another text of it, is too long.
+fn has_long(body: &Body) -> bool
+    ensures { result ≡ has_long body.now }
+{
+    match body {
+        Body::Messages(items) => has_long_id(items.as_slice()),
+        Body::Presence(items) => has_long_item(items.as_slice()),
+    }
 }
 
 fn has_id(item: &Item) -> bool
@@ -76,20 +114,73 @@ fn all_have_ids(items: &[Item]) -> bool
     items.iter().all(|item| has_id(item))
 }
 
-// The code of the first rule that a body fails.
+fn has_mixed_ids(items: &[Item]) -> bool
+    ensures { result ≡ has_mixed_ids items.now }
+{
+    some_have_ids(items) && !all_have_ids(items)
+}
+
+fn is_bad_action(item: &PresenceItem) -> bool
+    ensures { result ≡ is_bad_action item.now }
+{
+    matches!(
+        item.action,
+        PresenceAction::Absent | PresenceAction::Present
+    )
+}
+
+fn has_bad_action(items: &[PresenceItem]) -> bool
+    ensures { result ≡ list_any is_bad_action items.now }
+{
+    items.iter().any(|item| is_bad_action(item))
+}
+
+fn has_no_client(item: &PresenceItem) -> bool
+    ensures { result ≡ has_no_client item.now }
+{
+    item.client.len() == 0
+}
+
+fn lacks_client(items: &[PresenceItem]) -> bool
+    ensures { result ≡ list_any has_no_client items.now }
+{
+    items.iter().any(|item| has_no_client(item))
+}
+
+// The code of the first rule on its own kind that a body fails.
+fn failed_rule(body: &Body) -> Option<u32>
+    ensures { result ≡ failed_rule body.now }
+{
+    match body {
+        Body::Messages(items) => {
+            if has_mixed_ids(items.as_slice()) {
+                Some(BAD_IDS)
+            } else {
+                None
+            }
+        }
+        Body::Presence(items) => {
+            if has_bad_action(items.as_slice()) {
+                Some(BAD_ACTION)
+            } else if lacks_client(items.as_slice()) {
+                Some(NO_CLIENT_ID)
+            } else {
+                None
+            }
+        }
+    }
+}
+
+// The answer to a body that some rule refuses: the code of the first rule that it fails.
 pub fn judged_by_rules(head: u64, body: &Body) -> Option<Verdict>
     ensures { result ≡ settled head (judged_by_rules head body.now) }
 {
-    let Body::Messages(items) = body;
-    let items = items.as_slice();
-    if weight(body) > 65_536 || has_long_id(items) {
+    if weight(body) > 65_536 || has_long(body) {
         Some(Verdict::Done(Outcome::Refused(TOO_LONG)))
     } else if head == u64::MAX - 1 {
         Some(Verdict::Done(Outcome::Refused(LOG_FULL)))
-    } else if some_have_ids(items) && !all_have_ids(items) {
-        Some(Verdict::Done(Outcome::Refused(BAD_IDS)))
     } else {
-        None
+        failed_rule(body).map(|code| Verdict::Done(Outcome::Refused(code)))
     }
 }
 

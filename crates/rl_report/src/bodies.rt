@@ -1,11 +1,11 @@
 //! Bodies, as the last words of a line.
 ghost use Rattle.std.specs.Prelude.{◌≡◌, ◌++◌, flat_map, OnOk};
-ghost use Rattle.rl_model.specs.Report.{body_words, item_words, spaced};
+ghost use Rattle.rl_model.specs.Report.{action_word, body_words, item_words, presence_words, spaced};
 
 use crate::lists::{Printed, push_all};
-use crate::words::{push_quoted_or_dash, push_word};
+use crate::words::{push_quoted, push_quoted_or_dash, push_word};
 use rl_ids::{Blob, Epoch, NoMemory};
-use rl_types::{Body, Item};
+use rl_types::{Body, Item, PresenceAction, PresenceItem};
 
 impl Printed for Item {
     ghost text_of = { λ epoch item. spaced (item_words item) };
@@ -18,9 +18,39 @@ impl Printed for Item {
     }
 }
 
+fn action_word(action: PresenceAction) -> &'static str
+    ensures { result.now ≡ action_word action }
+{
+    match action {
+        PresenceAction::Absent => "absent",
+        PresenceAction::Present => "present",
+        PresenceAction::Enter => "enter",
+        PresenceAction::Leave => "leave",
+        PresenceAction::Update => "update",
+    }
+}
+
+impl Printed for PresenceItem {
+    ghost text_of = { λ epoch item. spaced (presence_words item) };
+
+    fn push_to(&self, out: &mut Blob, _epoch: Epoch) -> Result<(), NoMemory> {
+        push_word(out, "|")?;
+        push_word(out, action_word(self.action))?;
+        push_quoted(out, &self.client)?;
+        push_quoted_or_dash(out, &self.payload)
+    }
+}
+
 // The words of all messages.
 fn push_items(out: &mut Blob, epoch: Epoch, items: &[Item]) -> Result<(), NoMemory>
     ensures { OnOk result (out.new ≡ out.old ++ spaced (flat_map item_words items.now)) }
+{
+    push_all(out, epoch, items)
+}
+
+// The words of all presence items.
+fn push_presence(out: &mut Blob, epoch: Epoch, items: &[PresenceItem]) -> Result<(), NoMemory>
+    ensures { OnOk result (out.new ≡ out.old ++ spaced (flat_map presence_words items.now)) }
 {
     push_all(out, epoch, items)
 }
@@ -33,6 +63,10 @@ impl Printed for Body {
             Body::Messages(items) => {
                 push_word(out, "message")?;
                 push_items(out, epoch, items.as_slice())
+            }
+            Body::Presence(items) => {
+                push_word(out, "presence")?;
+                push_presence(out, epoch, items.as_slice())
             }
         }
     }

@@ -1,11 +1,14 @@
 //! Clients: their connections, their answers and what they know of their channels.
-ghost use Rattle.std.specs.Prelude.{◌≡◌, ◌++◌, ◌∷◌, [], codes, decimal, OnOk};
-ghost use Rattle.rl_model.specs.Report.{answer_line, chan_word, client_lines, conn_word, held_word, line, spaced, text_or_dash, view_lines, yes_or_no};
+ghost use Rattle.std.specs.Prelude.{◌≡◌, ◌++◌, ◌∷◌, [], codes, decimal, flat_map, OnOk};
+ghost use Rattle.rl_model.specs.Report.{answer_line, chan_word, client_lines, conn_word, held_word, line, member_line, spaced, text_or_dash, view_lines, yes_or_no};
 
 use crate::lists::{Printed, push_all};
-use crate::words::{push_number, push_str, push_text_or_dash, push_word, push_yes_or_no};
+use crate::words::{
+    push_number, push_quoted, push_quoted_or_dash, push_str, push_text_or_dash, push_word,
+    push_yes_or_no,
+};
 use rl_ids::{Blob, ChannelSerial, Epoch, NoMemory};
-use rl_types::{Answer, ChanState, ChannelView, ClientFindings, ConnState};
+use rl_types::{Answer, ChanState, ChannelView, ClientFindings, ConnState, PresenceItem};
 
 fn conn_word(state: ConnState) -> &'static str
     ensures { result.now ≡ conn_word state }
@@ -89,15 +92,43 @@ fn push_whole(out: &mut Blob, first: &str, name: &str, whole: bool) -> Result<()
     push_str(out, "\n")
 }
 
-// The lines on members and objects. No script makes a member or an object: only the root is there, an
-// empty map.
-fn push_wholes(out: &mut Blob, view: &ChannelView) -> Result<(), NoMemory>
+// The line of a member.
+fn push_member(out: &mut Blob, member: &PresenceItem) -> Result<(), NoMemory>
+    ensures { OnOk result (out.new ≡ out.old ++ member_line member.now) }
+{
+    push_str(out, "member")?;
+    push_word(out, member.conn.as_str())?;
+    push_quoted(out, &member.client)?;
+    push_quoted_or_dash(out, &member.payload)?;
+    push_str(out, "\n")
+}
+
+// The lines of all members.
+fn push_member_lines(out: &mut Blob, members: &[PresenceItem]) -> Result<(), NoMemory>
+    ensures { OnOk result (out.new ≡ out.old ++ flat_map member_line members.now) }
+{
+    for member in members {
+        push_member(out, member)?;
+    }
+    Ok(())
+}
+
+// The lines on members.
+fn push_members(out: &mut Blob, view: &ChannelView) -> Result<(), NoMemory>
     ensures { OnOk result (out.new ≡ out.old
         ++ line (codes "members") (view.now.name ∷ yes_or_no view.now.members_whole ∷ [])
+        ++ flat_map member_line view.now.members) }
+{
+    push_whole(out, "members", view.name.as_str(), view.members_whole)?;
+    push_member_lines(out, view.members.as_slice())
+}
+
+// The lines on objects. No script makes an object: only the root is there, an empty map.
+fn push_objects(out: &mut Blob, view: &ChannelView) -> Result<(), NoMemory>
+    ensures { OnOk result (out.new ≡ out.old
         ++ line (codes "objects") (view.now.name ∷ yes_or_no view.now.objects_whole ∷ [])
         ++ codes "map root 0\n") }
 {
-    push_whole(out, "members", view.name.as_str(), view.members_whole)?;
     push_whole(out, "objects", view.name.as_str(), view.objects_whole)?;
     push_str(out, "map root 0\n")
 }
@@ -108,7 +139,8 @@ impl Printed for ChannelView {
     fn push_to(&self, out: &mut Blob, epoch: Epoch) -> Result<(), NoMemory> {
         push_record(out, self)?;
         push_all(out, epoch, self.runs.segments.as_slice())?;
-        push_wholes(out, self)
+        push_members(out, self)?;
+        push_objects(out, self)
     }
 }
 

@@ -114,7 +114,7 @@ fn push_quoted_bytes(out: &mut Blob, bytes: &[u8]) -> Result<(), NoMemory>
 }
 
 // A text in quotes.
-fn push_quoted(out: &mut Blob, text: &Text) -> Result<(), NoMemory>
+pub fn push_quoted(out: &mut Blob, text: &Text) -> Result<(), NoMemory>
     ensures { OnOk result (out.new ≡ out.old ++ 32 ∷ quoted text.now) }
 {
     push_word(out, "\"")?;

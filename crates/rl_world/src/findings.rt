@@ -70,6 +70,7 @@ fn view_of(alloc: Global, name: &Text, client: &Client, head: u64) -> Result<Cha
             segments: client.segments.copy(alloc)?,
         },
         members_whole: whole,
+        members: List::new(alloc),
         objects_whole: whole,
     })
 }
