@@ -2,3 +2,4 @@ pub mod Fed
 pub mod Places
 pub mod Shown
 pub mod Worlds
+pub mod Small

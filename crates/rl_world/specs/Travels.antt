@@ -1,5 +1,5 @@
 -- What of a world travels as frames, and that it is small enough.
-use Rattle.std.specs.Prelude.{◌≡◌, ℕ, ◌<◌, ◌≤◌, ◌^◌, ⊤, List, [], length, Option, Some, None}
+use Rattle.std.specs.Prelude.{◌≡◌, ℕ, ◌<◌, ◌≤◌, ◌^◌, ⊤, List, [], length, Option, Some, None, if◌then◌else◌}
 use Rattle.std.specs.List.{AllByRecursion}
 use Rattle.rl_types.specs.declared.channel.ChannelEvent.{ChannelEvent}
 use Rattle.rl_types.specs.declared.messages.Entry.{Entry}
@@ -9,6 +9,8 @@ use Rattle.rl_types.specs.declared.states.ChanState.TheVariants.{Initialized}
 use Rattle.rl_model.specs.declared.plain.Client.{Client}
 use Rattle.rl_model.specs.declared.plain.Sent.{Sent}
 use Rattle.rl_model.specs.declared.plain.Sent.TheVariants.{Asks, Sends}
+use Rattle.rl_types.specs.declared.script.Line.{Line}
+use Rattle.rl_model.specs.Script.{is_publish}
 use Rattle.rl_model.specs.Limits.{IsChannelName, IsSmallBody}
 use Rattle.rl_model.specs.Verdict.{log}
 use Rattle.rl_model.specs.World.{World}
@@ -67,3 +69,7 @@ CanTravel channel sent = IsNamed channel × IsSmallSent sent
 
 abbrev pub AllTravel : Option (List ℕ) → List Sent → Type 0
 AllTravel channel all = AllByRecursion (CanTravel channel) all
+
+-- how many messages a line publishes
+abbrev pub published_by : Line → ℕ
+published_by line = if is_publish line then 1 else 0
