@@ -4,3 +4,4 @@ pub mod Utf8
 pub mod Texts
 pub mod FirstLines
 pub mod Kept
+pub mod Small

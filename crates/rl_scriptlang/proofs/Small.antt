@@ -151,3 +151,8 @@ small_from (text ∷ texts) number before each =
 
 pub small_lines : (bytes : List ℕ) (all : List Line) → script_of bytes ≡ Ok all → AreSmallLines all
 small_lines bytes all is = subst HasSmallLines is (small_from (lines bytes) 1 [] tt)
+
+-- no line is left
+pub no_more : (rest : List ℕ) (number : ℕ) (before : List Line) → length rest ≡ 0 → script_from (lines rest) number before ≡ Ok before
+no_more [] number before is = refl
+no_more (byte ∷ rest) number before is = absurd (cc)
