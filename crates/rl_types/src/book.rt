@@ -7,9 +7,15 @@ use std::alloc::Global;
 #[derive(Debug, Drop, PartialEq, Eq)]
 pub enum BookEvent {
     /// A client connects without a key, or with one that is not known. `word` is a random word for its key.
-    Open { word: u64, now: Moment },
+    Open {
+        word: u64,
+        now: Moment,
+    },
     /// A client comes back with the key of its connection (RTN15b).
-    Resume { key: Text, now: Moment },
+    Resume {
+        key: Text,
+        now: Moment,
+    },
     /// A put with this message serial (RTN7b) is to begin.
     Begin {
         conn: ConnNo,
@@ -30,9 +36,14 @@ pub enum BookEvent {
         now: Moment,
     },
     /// The client closes its connection (RTN12).
-    Close { conn: ConnNo, generation: u64 },
+    Close {
+        conn: ConnNo,
+        generation: u64,
+    },
     /// Connections that are lost for too long (RTN15g), or closed, are given up.
-    Expire { now: Moment },
+    Expire {
+        now: Moment,
+    },
 }
 
 /// What the book of connections answers.
@@ -44,8 +55,14 @@ pub enum BookReply {
         key: Text,
     },
     /// There are too many connections: so many stand, and the number given last.
-    Limit { count: usize, given: u32 },
-    Resumed { conn: ConnNo, generation: u64 },
+    Limit {
+        count: usize,
+        given: u32,
+    },
+    Resumed {
+        conn: ConnNo,
+        generation: u64,
+    },
     /// No connection that stands has this key.
     KeyUnknown,
     /// The put may go on.
@@ -53,11 +70,19 @@ pub enum BookReply {
     /// A put with this serial has ended with this outcome already (RTN19a2).
     Known(Outcome),
     /// A serial was left out.
-    SerialGap { got: u64, expected: u64 },
+    SerialGap {
+        got: u64,
+        expected: u64,
+    },
     /// The serial is past, and its outcome is not kept.
-    SerialOld { got: u64, expected: u64 },
+    SerialOld {
+        got: u64,
+        expected: u64,
+    },
     /// The connection was taken over by a later transport, whose generation is this one.
-    Superseded { newer: u64 },
+    Superseded {
+        newer: u64,
+    },
     /// No connection with this number stands.
     NoRecord,
     Done,

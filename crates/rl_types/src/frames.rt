@@ -38,9 +38,16 @@ pub enum Frame {
     /// The peer is there (RTN23).
     Heartbeat,
     /// The messages with these `count` serials, from `serial` on, were taken (RTN7a).
-    Ack { serial: u64, count: u32 },
+    Ack {
+        serial: u64,
+        count: u32,
+    },
     /// They were refused with this code (RTN7a).
-    Nack { serial: u64, count: u32, code: u32 },
+    Nack {
+        serial: u64,
+        count: u32,
+        code: u32,
+    },
     Connect,
     /// The connection stands (RTN4): its id and key (RTN8, RTN9), how long it is kept once it is lost (CD2f)
     /// and the longest silence (CD2h), both in milliseconds, the greatest weight of a message (CD2c), and
@@ -55,15 +62,23 @@ pub enum Frame {
     },
     Disconnect,
     /// The service ends the transport (RTN15h).
-    Disconnected { code: Option<u32> },
+    Disconnected {
+        code: Option<u32>,
+    },
     /// The client closes its connection (RTN12).
     Close,
     /// The connection is closed (RTN12a).
     Closed,
     /// The connection failed (RTN15i), or the channel, where one is named (RTL14).
-    Error { channel: Option<Text>, code: u32 },
+    Error {
+        channel: Option<Text>,
+        code: u32,
+    },
     /// The client attaches (RTL4c), from a serial on where it gives one (RTL4c1).
-    Attach { channel: Text, serial: Option<Given> },
+    Attach {
+        channel: Text,
+        serial: Option<Given>,
+    },
     /// The channel is attached, from this serial on (RTL4c, RTL15b). For the bits of `flags` see TR3; they are
     /// kept as they are.
     Attached {
@@ -73,12 +88,23 @@ pub enum Frame {
         code: Option<u32>,
     },
     /// The client detaches (RTL5d).
-    Detach { channel: Text },
-    Detached { channel: Text, code: Option<u32> },
+    Detach {
+        channel: Text,
+    },
+    Detached {
+        channel: Text,
+        code: Option<u32>,
+    },
     /// Members entered, left or changed (RTP2); at least one item.
-    Presence { head: Head, items: List<PresenceItem> },
+    Presence {
+        head: Head,
+        items: List<PresenceItem>,
+    },
     /// Messages (RTL6, RTL7); at least one.
-    Message { head: Head, items: List<Item> },
+    Message {
+        head: Head,
+        items: List<Item>,
+    },
     /// A page of the channel's members (RTP18). Without a place in a sync it is the whole of them (RTP18c).
     Sync {
         channel: Text,
