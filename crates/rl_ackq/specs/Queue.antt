@@ -62,9 +62,12 @@ abbrev pub RiseFrom : ℕ → List Pending → ℕ → Type 0
 RiseFrom low [] next = low ≤ next
 RiseFrom low (one ∷ rest) next = (low ≤ one.serial) × RiseFrom (one.serial + 1) rest next
 
+-- each is a MESSAGE or PRESENCE that has its serial in its head
+abbrev pub AreTold : List Pending → Type 0
+AreTold = AllByRecursion (λ (one : Pending). serial_in one.frame ≡ Some one.serial)
+
 pub record IsQueue (pending : List Pending) (next : ℕ) : Type 0 where
   pub few : length pending ≤ 1000
   pub small : next ≤ 2 ^ 53 - 1
   pub rise : RiseFrom 0 pending next
-  -- each is a MESSAGE or PRESENCE that has its serial in its head
-  pub told : AllByRecursion (λ (one : Pending). serial_in one.frame ≡ Some one.serial) pending
+  pub told : AreTold pending

@@ -117,7 +117,8 @@ impl AckQueue {
 
     /// Copies of the pending frames in order, each with its serial in its head, to be sent again (RTN19a).
     pub fn resend(&self, alloc: Global) -> Result<List<Frame>, NoMemory>
-        ensures { IfOk result (λ frames. frames ≡ queue.frames self.now.pending) }
+        ensures ok { IfOk result (λ frames. frames ≡ queue.frames self.now.pending) }
+        ensures told { queue.AreTold self.now.pending }
     {
         let mut frames = List::new(alloc);
         for at in 0..self.pending.len() {
@@ -144,8 +145,8 @@ impl AckQueue {
         self.next = serial;
     }
 
-    /// Drops all pending frames, and answers how many there were; the next serial is then 0. It takes no
-    /// memory.
+    /// Drops all pending frames, and answers how many there were; the next serial is then 0 (RTN7e). It takes
+    /// no memory.
     pub fn drop_all(&mut self) -> usize
         ensures count { result ≡ length self.old.pending }
         ensures dropped { self.new ≡ queue.new_queue }

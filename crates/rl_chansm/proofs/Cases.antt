@@ -1,6 +1,5 @@
 -- The laws, case by case.
 use Rattle.std.proofs.Common.{refl, arith}
-use Rattle.rl_types.specs.declared.states.ChanState.TheVariants as chan
 use Rattle.rl_chansm.specs.declared.table.ChanEvent.TheVariants as event
 use Rattle.rl_chansm.specs.Laws.{AttachedByTheService, NeverInitializedAgain, RestsAfterTheConnection, RestsUntilAttach, SuspendedWithTheConnection}
 

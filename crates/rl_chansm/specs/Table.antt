@@ -1,5 +1,5 @@
 -- The state table of a channel as a client sees it (RTL2).
-use Rattle.std.specs.Prelude.{Bool, true, false}
+use Rattle.std.specs.Prelude.{true, false}
 use Rattle.rl_types.specs.declared.states.ChanState.{ChanState}
 use Rattle.rl_types.specs.declared.states.ChanState.TheVariants as chan
 use Rattle.rl_chansm.specs.declared.table.ChanEvent.{ChanEvent}

@@ -1,9 +1,5 @@
 -- The laws, case by case.
-use Rattle.std.proofs.Common.{◌≡◌, refl, arith, rules}
-use Rattle.std.specs.Prelude.{Bool, true, false}
-use Rattle.rl_types.specs.declared.states.ConnState.{ConnState}
-use Rattle.rl_types.specs.declared.states.ConnState.TheVariants as conn
-use Rattle.rl_connsm.specs.declared.table.ConnEvent.{ConnEvent}
+use Rattle.std.proofs.Common.{refl, arith}
 use Rattle.rl_connsm.specs.declared.table.ConnEvent.TheVariants as event
 use Rattle.rl_connsm.specs.Laws.{ClosingEndsClosed, ConnectedByTheService, ConnectsWhereItMay, NeverInitializedAgain, RestsUntilConnect}
 

@@ -7,15 +7,15 @@ use Rattle.rl_connsm.specs.declared.table.ConnEvent.TheVariants as event
 
 -- the state after an event; the second argument is whether the client last connected from SUSPENDED
 abbrev pub conn_table : ConnState → Bool → ConnEvent → ConnState
--- it connects (RTN11, RTN11b, RTN11d)
+-- the client connects (RTN11); that it may not in CLOSING is this project's own
 conn_table conn.Initialized from_suspended event.Connect = conn.Connecting
 conn_table conn.Disconnected from_suspended event.Connect = conn.Connecting
 conn_table conn.Suspended from_suspended event.Connect = conn.Connecting
 conn_table conn.Closed from_suspended event.Connect = conn.Connecting
 conn_table conn.Failed from_suspended event.Connect = conn.Connecting
--- the service says that it is connected (RTN4)
+-- the service says that the connection stands (RTN4)
 conn_table conn.Connecting from_suspended event.Connected = conn.Connected
--- it cannot connect (RTN14d), or not again once it was suspended (RTN14f)
+-- there is no connecting (RTN14d): where the client came from SUSPENDED it is SUSPENDED again (RTN14f)
 conn_table conn.Connecting false event.Down = conn.Disconnected
 conn_table conn.Connecting false event.Disconnected = conn.Disconnected
 conn_table conn.Connecting true event.Down = conn.Suspended
