@@ -1,10 +1,10 @@
 -- Settling a range of rising serials cuts a piece out of the list.
-use Rattle.std.proofs.Common.{◌≡◌, refl, ℕ, zero, suc, ◌+◌, ◌-◌, ◌≤◌, ◌<◌, Bool, true, false, List, [], ◌∷◌, ◌++◌, length, take, drop, min, arith, ap, sym, ◌∙◌, inl, inr}
-use Rattle.std.specs.Prelude.{filter, cond, not, ◌&&◌, nat_le, nat_lt}
+use Rattle.std.proofs.Common.{◌≡◌, refl, ℕ, suc, ◌+◌, ◌-◌, ◌≤◌, true, false, List, [], ◌∷◌, ◌++◌, length, take, drop, min, arith, ap, sym, ◌∙◌, inl, inr}
+use Rattle.std.specs.Prelude.{filter, not, nat_le, nat_lt}
 use Rattle.std.proofs.lemmas.Bool.{cases_lt, le-ltb, le-leb, lt-leb, lt-ltb}
 use Rattle.rl_ackq.specs.declared.pending.Pending.{Pending}
 use Rattle.rl_ackq.specs.Queue.{RiseFrom, is_below, is_covered}
-use Rattle.rl_ackq.proofs.Kept.{few_filter, rise_ends}
+use Rattle.rl_ackq.proofs.Kept.{rise_ends}
 
 -- how many have serials below this one
 abbrev pub count_below : ℕ → List Pending → ℕ

@@ -1,5 +1,5 @@
 -- The queue of the frames that await acknowledgement (RTN7).
-use Rattle.std.specs.Prelude.{ℕ, ◌+◌, ◌-◌, ◌^◌, ◌≡◌, ◌≤◌, ◌<◌, ⊤, Bool, not, ◌&&◌, ◌||◌, ◌==◌, nat_le, nat_lt, List, [], ◌∷◌, ◌++◌, length, map, filter, Some}
+use Rattle.std.specs.Prelude.{ℕ, ◌+◌, ◌-◌, ◌^◌, ◌≡◌, ◌≤◌, Bool, not, ◌&&◌, ◌||◌, ◌==◌, nat_le, nat_lt, List, [], ◌∷◌, ◌++◌, length, map, filter, Some}
 use Rattle.std.specs.List.{AllByRecursion}
 use Rattle.rl_types.specs.declared.frames.Frame.{Frame}
 use Rattle.rl_ackq.specs.declared.pending.Pending.{Pending}

@@ -1,8 +1,8 @@
-use Rattle.std.proofs.Common.{◌≡◌, ◌∙◌, sym, ap}
+use Rattle.std.proofs.Common.{◌≡◌, sym}
 use Rattle.std.specs.Prelude.{filter, not}
 use Rattle.std.specs.List.{remove_range}
 use Rattle.rl_ackq.specs.declared.pending.Pending.{Pending}
-use Rattle.rl_ackq.specs.Queue.{Queue, is_covered}
+use Rattle.rl_ackq.specs.Queue.{is_covered}
 use Rattle.rl_ackq.proofs.Kept.{queue_filtered}
 use Rattle.rl_ackq.proofs.queue.AckQueue.settle.Goals as goal
 
