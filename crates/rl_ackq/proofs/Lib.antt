@@ -1,0 +1,5 @@
+pub mod Cuts
+pub mod Kept
+pub mod Numbers
+pub mod Points
+pub mod Runs
