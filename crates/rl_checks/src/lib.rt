@@ -9,4 +9,8 @@ mod channels;
 #[cfg(test)]
 mod data;
 #[cfg(test)]
+mod frames;
+#[cfg(test)]
+mod presence;
+#[cfg(test)]
 mod scripts;
