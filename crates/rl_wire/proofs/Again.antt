@@ -6,7 +6,7 @@ use Rattle.serde_json.specs.Data.{Data, string, array, object, Items, Members, n
 use Rattle.serde_json.specs.Read.{read}
 use Rattle.rl_ids.specs.declared.serials.ChannelSerial.{ChannelSerial}
 use Rattle.rl_ids.specs.Forms.{serial_text, serial_of, IsSerial}
-use Rattle.rl_ids.proofs.SerialTexts.{serial_of-serial_text}
+use Rattle.rl_ids.proofs.SerialTexts.{serial_back}
 use Rattle.rl_types.specs.declared.frames.Cursor.{Cursor}
 use Rattle.rl_types.specs.declared.frames.Frame.{Frame}
 use Rattle.rl_types.specs.declared.frames.Frame.TheVariants as frames
@@ -22,11 +22,11 @@ use Rattle.rl_jsonfields.specs.Fields.{Reads, ◌>>=◌, whole, whole_in, text, 
 use Rattle.rl_jsonfields.specs.Texts.{num, with_some, with_text, with_number}
 use Rattle.rl_jsonfields.proofs.Got.{found, required_found, optional_found, optional_found_one, text_found, required_text_found, required_sized_found, sized_found, required_number_found, number_found, found_rules}
 use Rattle.rl_wireitems.specs.Items.{message_items, presence_items, sync_head, message_values, presence_values, sync_values, AreMessages, ArePresence}
-use Rattle.rl_wireitems.proofs.Again.{messages_again, presence_again, sync_again}
+use Rattle.rl_wireitems.proofs.Stub.{messages_again, presence_again, sync_again, message_values_some, presence_values_some}
 use Rattle.rl_wire.specs.Frames.{max_length, max_serial, max_32, max_64, action_of, channel_serial, given_by, given_of, given_serial, cursor_of, cursor, channel, msg_serial, count, code_in, error_code, head, ack, nack, details, connection_details, connected, disconnected, error, attach, attached, detach, detached, presence, message, sync, by_action, object_frame, frame_at}
 use Rattle.rl_wire.specs.Sendable.{IsName, Fits32, Fits64, IsMsgSerial, IsCount, IsGiven, IsCursor, IsHead, IsSendable}
 use Rattle.rl_wire.specs.Texts.{action, code_name, error_value, with_error, given_text, cursor_text, head_members, details_value, frame_members, frame_value}
-use Rattle.rl_wire.proofs.Cursors.{cursor_again}
+use Rattle.rl_wire.proofs.Cuts.{cursor_again}
 
 abbrev In : ℕ → ℕ → ℕ → Type 0
 In low high n = (low ≤ n) × (n ≤ high)
@@ -78,7 +78,7 @@ error_again ms (Some c) e h = rw (e, error_present c, error_object c) (code_agai
 -- ---- channel serials and cursors
 
 required_serial_again : (ms : Members) (s : ChannelSerial) → found fields.ChannelSerial ms ≡ Some (string (serial_text s)) → IsSerial s → required channel_serial fields.ChannelSerial (object ms) ≡ Ok s
-required_serial_again ms s e h = required_found channel_serial fields.ChannelSerial ms (string (serial_text s)) s e refl (serial_of-serial_text s h)
+required_serial_again ms s e h = required_found channel_serial fields.ChannelSerial ms (string (serial_text s)) s e refl (serial_back s h)
 
 -- an option that is written as a text
 written_option : {A : Type 0} (shape : Data → Option A) (back : A → List ℕ) (f : Field) (ms : Members) (o : Option A) → found f ms ≡ option_map string (option_map back o) → IfSome o (λ x. shape (string (back x)) ≡ Some x) → optional shape f (object ms) ≡ Ok o
@@ -87,10 +87,10 @@ written_option shape back f ms None e h = rw e refl
 written_option shape back f ms (Some x) e h = rw (e, h) refl
 
 optional_serial_again : (ms : Members) (o : Option ChannelSerial) → found fields.ChannelSerial ms ≡ option_map string (option_map serial_text o) → IfSome o IsSerial → optional channel_serial fields.ChannelSerial (object ms) ≡ Ok o
-optional_serial_again ms o e h = written_option channel_serial serial_text fields.ChannelSerial ms o e (each_some IsSerial (λ s. channel_serial (string (serial_text s)) ≡ Some s) o (λ s k. serial_of-serial_text s k) h)
+optional_serial_again ms o e h = written_option channel_serial serial_text fields.ChannelSerial ms o e (each_some IsSerial (λ s. channel_serial (string (serial_text s)) ≡ Some s) o (λ s k. serial_back s k) h)
 
 given_again : (g : Given) → IsGiven g → given_of (given_text g) ≡ g
-given_again (given.Ours s) h = ap (given_by (serial_text s)) (serial_of-serial_text s h)
+given_again (given.Ours s) h = ap (given_by (serial_text s)) (serial_back s h)
 given_again (given.Other t) h = ap (given_by t) h
 
 optional_given_again : (ms : Members) (o : Option Given) → found fields.ChannelSerial ms ≡ option_map string (option_map given_text o) → IfSome o IsGiven → optional given_serial fields.ChannelSerial (object ms) ≡ Ok o
@@ -280,7 +280,7 @@ sync_frame_again s at is hs hc are =
     let e1 : found fields.Channel ms ≡ Some (string s) = simp found_rules in
     let e2 : found fields.ChannelSerial ms ≡ option_map string (option_map cursor_text at) = simp found_rules in
     let e3 : found fields.Presence ms ≡ Some (array (sync_values is)) = simp found_rules in
-    rw (channel_again ms s e1 hs, optional_cursor_again ms at e2 hc, optional_found_one any_items fields.Presence ms (array (sync_values is)) (sync_values is) e3 refl refl, sync_again (sync_head s) is are) refl
+    rw (channel_again ms s e1 hs, optional_cursor_again ms at e2 hc, optional_found_one any_items fields.Presence ms (array (sync_values is)) (sync_values is) e3 refl refl, sync_again s is are) refl
 
 -- ---- whole frames
 

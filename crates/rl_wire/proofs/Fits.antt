@@ -7,7 +7,7 @@ use Rattle.serde_json.specs.Find.{as_str, as_array}
 use Rattle.serde_json.specs.Read.{read}
 use Rattle.rl_ids.specs.declared.serials.ChannelSerial.{ChannelSerial}
 use Rattle.rl_ids.specs.Forms.{serial_of, IsSerial}
-use Rattle.rl_ids.proofs.SerialTexts.{serial_of-is}
+use Rattle.rl_ids.proofs.SerialTexts.{serial_only}
 use Rattle.rl_types.specs.declared.frames.WireFault.TheVariants.{TooLong, NotText}
 use Rattle.rl_types.specs.declared.frames.Cursor.{Cursor}
 use Rattle.rl_types.specs.declared.frames.Frame.{Frame}
@@ -21,12 +21,12 @@ use Rattle.rl_jsonfields.specs.declared.names.Field.TheVariants as fields
 use Rattle.rl_jsonfields.specs.Fields.{Reads, ◌>>=◌, whole, whole_in, text, text_in, an_object, any_items, not_empty, some_items, required, optional, each_at}
 use Rattle.rl_jsonfields.proofs.Shapes.{bind_ok, done, ok_is, guard_ok, some_is, required_ok, optional_ok, required_number, optional_number, required_text, optional_text}
 use Rattle.rl_wireitems.specs.Items.{message_items, presence_items, sync_head, AreMessages, ArePresence}
-use Rattle.rl_wireitems.proofs.Again.{messages_fit, presence_fits, messages_some, presence_some}
+use Rattle.rl_wireitems.proofs.Stub.{messages_fit, presence_fits, message_full, presence_full}
 use Rattle.rl_wire.specs.declared.actions.Action.{Action}
 use Rattle.rl_wire.specs.declared.actions.Action.TheVariants as actions
 use Rattle.rl_wire.specs.Frames.{max_length, max_serial, max_32, max_64, action_of, channel_serial, given_by, given_of, given_serial, cursor_of, cursor, channel, msg_serial, count, code_in, error_code, head, ack, nack, details, connection_details, connected, disconnected, error, attach, attached, detach, detached, presence, message, sync, by_action, object_frame, value_frame, json_frame, frame_at}
 use Rattle.rl_wire.specs.Sendable.{IsName, Fits32, Fits64, IsMsgSerial, IsCount, IsGiven, IsCursor, IsHead, IsSendable}
-use Rattle.rl_wire.proofs.Cursors.{cursor_fits}
+use Rattle.rl_wire.proofs.Cuts.{cursor_fits}
 
 -- ---- numbers
 
@@ -86,7 +86,7 @@ code_or (Some n) h = h
 
 text_serial : (o : Option (List ℕ)) (s : ChannelSerial) → option_and_then serial_of o ≡ Some s → IsSerial s
 text_serial None s e = absurd cc
-text_serial (Some t) s e = serial_of-is t s e
+text_serial (Some t) s e = (serial_only t s e).1
 
 required_serial : (f : Field) (d : Data) (s : ChannelSerial) → required channel_serial f d ≡ Ok s → IsSerial s
 required_serial f d s e = let a = required_ok channel_serial f d s e in text_serial (as_str a.0) s a.1
@@ -96,7 +96,7 @@ optional_serial f d o e = each_some (λ s. (v : Data) × (channel_serial v ≡ S
 
 given_at : (t : List ℕ) (o : Option ChannelSerial) → serial_of t ≡ o → IsGiven (given_by t o)
 given_at t None e = e
-given_at t (Some s) e = serial_of-is t s e
+given_at t (Some s) e = (serial_only t s e).1
 
 text_given : (o : Option (List ℕ)) (g : Given) → option_map given_of o ≡ Some g → IsGiven g
 text_given None g e = absurd cc
@@ -127,20 +127,19 @@ head_fits d h e =
     let stamp = each_some (In 0 max_64) Fits64 k.0 (λ n r. below_64 n r.1) (optional_number 0 max_64 fields.Timestamp d k.0 k.1) in
     subst IsHead (ok_is (record { channel = a.0; msg = b.0; serial = c.0; conn = i.0; id = j.0; stamp = k.0 }) h k.2) (channel_fits d a.0 a.1, msg, optional_serial fields.ChannelSerial d c.0 c.1, stamp)
 
-abbrev pub HasItems : Items → Type 0
-HasItems no_items = ⊥
-HasItems (item d ds) = Unit {0}
+abbrev IsFull : Items → Type 0
+IsFull ds = not_empty ds ≡ Some ds
 
-has_items_at : (ds es : Items) → not_empty ds ≡ Some es → HasItems es
-has_items_at no_items es e = absurd cc
-has_items_at (item d ds) es e = subst HasItems (some_is (item d ds) es e) tt
+full_at : (ds es : Items) → not_empty ds ≡ Some es → IsFull es
+full_at no_items es e = absurd cc
+full_at (item d ds) es e = subst IsFull (some_is (item d ds) es e) refl
 
-has_items_in : (o : Option Items) (es : Items) → option_and_then not_empty o ≡ Some es → HasItems es
-has_items_in None es e = absurd cc
-has_items_in (Some ds) es e = has_items_at ds es e
+full_in : (o : Option Items) (es : Items) → option_and_then not_empty o ≡ Some es → IsFull es
+full_in None es e = absurd cc
+full_in (Some ds) es e = full_at ds es e
 
-has_items : (f : Field) (d : Data) (es : Items) → required some_items f d ≡ Ok es → HasItems es
-has_items f d es e = let a = required_ok some_items f d es e in has_items_in (as_array a.0) es a.1
+full : (f : Field) (d : Data) (es : Items) → required some_items f d ≡ Ok es → IsFull es
+full f d es e = let a = required_ok some_items f d es e in full_in (as_array a.0) es a.1
 
 -- ---- frames
 
@@ -237,7 +236,7 @@ presence_frame_fits d f e =
     let a = bind_ok (head d) _ f e in
     let b = bind_ok (required some_items fields.Presence d) _ f a.2 in
     let c = bind_ok (presence_items a.0 b.0) _ f b.2 in
-    subst IsSendable (ok_is (frames.Presence a.0 c.0) f c.2) (head_fits d a.0 a.1, presence_full a.0 b.0 c.0 (has_items fields.Presence d b.0 b.1) c.1, presence_fits a.0 b.0 c.0 c.1)
+    subst IsSendable (ok_is (frames.Presence a.0 c.0) f c.2) (head_fits d a.0 a.1, presence_full a.0 b.0 c.0 (full fields.Presence d b.0 b.1) c.1, presence_fits a.0 b.0 c.0 c.1)
 
 message_fits : (d : Data) (f : Frame) → message d ≡ Ok f → IsSendable f
 unfolding message
@@ -245,7 +244,7 @@ message_fits d f e =
     let a = bind_ok (head d) _ f e in
     let b = bind_ok (required some_items fields.Messages d) _ f a.2 in
     let c = bind_ok (message_items a.0 b.0) _ f b.2 in
-    subst IsSendable (ok_is (frames.Message a.0 c.0) f c.2) (head_fits d a.0 a.1, message_full a.0 b.0 c.0 (has_items fields.Messages d b.0 b.1) c.1, messages_fit a.0 b.0 c.0 c.1)
+    subst IsSendable (ok_is (frames.Message a.0 c.0) f c.2) (head_fits d a.0 a.1, message_full a.0 b.0 c.0 (full fields.Messages d b.0 b.1) c.1, messages_fit a.0 b.0 c.0 c.1)
 
 sync_fits : (d : Data) (f : Frame) → sync d ≡ Ok f → IsSendable f
 unfolding sync

@@ -1,5 +1,5 @@
 pub mod Again
-pub mod Cursors
+pub mod Cuts
 pub mod Fits
 pub mod Flat
 pub mod Law

@@ -18,5 +18,3 @@ mod writing;
 pub use reading::read_frame;
 pub use writing::write_frame;
 
-#[cfg(test)]
-mod tests;
