@@ -1,1 +1,3 @@
 pub mod Forms
+pub mod Serials
+pub mod Uuids

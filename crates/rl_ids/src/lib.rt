@@ -4,6 +4,7 @@
 #![tactic(auto)]
 
 mod conns;
+mod epochs;
 pub mod laws;
 mod members;
 mod numbers;
@@ -12,6 +13,7 @@ mod serials;
 mod sites;
 
 pub use conns::write_conn;
+pub use epochs::write_epoch;
 pub use members::MemberKey;
 pub use numbers::{ConnNo, Epoch, Moment, Place};
 pub use objects::{MapValue, ObjectId, ObjectKind};
