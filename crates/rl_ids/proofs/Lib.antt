@@ -1,3 +1,3 @@
 pub mod Forms
-pub mod Serials
+pub mod SerialTexts
 pub mod Uuids
