@@ -1,0 +1,9 @@
+pub mod Apart
+pub mod Each
+pub mod EachAt
+pub mod Flat
+pub mod Got
+pub mod Listed
+pub mod Named
+pub mod Shapes
+pub mod Utf8

@@ -1,0 +1,25 @@
+//! Laws over the definitions alone.
+ghost use Rattle.std.specs.Prelude.{◌≡◌, ◌≢◌, ◌≤◌, ℕ, List as Seq, length, Ok, Err, Some, IsUtf8};
+ghost use Rattle.rl_types.specs.declared.frames.Frame.{Frame as SomeFrame};
+ghost use Rattle.rl_types.specs.declared.frames.WireFault.TheVariants.{NoMemory};
+ghost use Rattle.rl_wire.specs.Frames.{frame_at, max_length};
+ghost use Rattle.rl_wire.specs.Sendable.{IsSendable};
+ghost use Rattle.rl_wire.specs.Texts.{frame_text};
+
+/// No bytes are read as want of memory: that answer comes from the allocator alone.
+#[tactic(auto, using(crate::proofs::Named::frame_named))]
+pub fn memory_is_no_fault_of_bytes()
+    ensures { (bytes : Seq ℕ) → frame_at bytes ≢ Err NoMemory }
+{}
+
+/// Each frame that bytes are can be sent.
+#[tactic(auto, using(crate::proofs::Fits::frame_fits))]
+pub fn what_is_read_is_sendable()
+    ensures { (bytes : Seq ℕ) (f : SomeFrame) → frame_at bytes ≡ Ok (Some f) → IsSendable f }
+{}
+
+/// The text of a frame that can be sent is read as the same frame, where it is UTF-8 and not too long.
+#[tactic(auto, using(crate::proofs::Law::text_again))]
+pub fn sendable_frames_read_back()
+    ensures { (f : SomeFrame) → IsSendable f → IsUtf8 (frame_text f) → length (frame_text f) ≤ max_length → frame_at (frame_text f) ≡ Ok (Some f) }
+{}
