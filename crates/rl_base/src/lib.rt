@@ -10,6 +10,7 @@ mod code;
 mod copied;
 mod list;
 mod memory;
+mod numerals;
 mod same;
 mod text;
 
@@ -18,5 +19,6 @@ pub use code::{Code, Code16, Code64};
 pub use copied::Copied;
 pub use list::List;
 pub use memory::NoMemory;
+pub use numerals::{read_digits, read_fixed};
 pub use same::Same;
 pub use text::Text;

@@ -1,7 +1,7 @@
 // The small types, and ids.
 use rl_ids::{
-    Blob, Code16, ConnNo, Copied, List, MapValue, MemberKey, NoMemory, ObjectId, Text, read_site,
-    write_conn,
+    Blob, ChannelSerial, Code16, ConnNo, Copied, Epoch, List, MapValue, MemberKey, NoMemory, ObjectId,
+    Place, Text, read_epoch, read_serial, read_site, write_conn, write_epoch, write_serial, write_site,
 };
 use std::alloc::Global;
 
@@ -120,5 +120,35 @@ fn values_are_copied(rt: HostRuntime) -> Result<(), NoMemory> {
     assert!(rt; is_copied(rt.alloc(), &MapValue::Whole(-3))?);
     assert!(rt; is_copied(rt.alloc(), &MapValue::Bool(true))?);
     assert!(rt; is_copied(rt.alloc(), &ConnNo(3))?);
+    Ok(())
+}
+
+#[test]
+fn channel_serials_are_written_and_read(rt: HostRuntime) -> Result<(), NoMemory> {
+    let serial = ChannelSerial {
+        epoch: Epoch(1),
+        place: Place(26),
+    };
+    let text = write_serial(rt.alloc(), &serial)?;
+    assert_eq!(rt; text.as_str(), "00000000-0000-0000-0000-000000000001:000000000000001a");
+    assert!(rt; read_serial(text.as_str()) == Some(serial));
+    assert!(rt; read_serial("00000000-0000-0000-0000-000000000001:000000000000001A").is_none());
+    assert!(rt; read_serial("0000000000000000000000000000000000001:000000000000001a").is_none());
+    let epoch = Epoch(0x67e5504410b1426f9247bb680e5fe0c8);
+    let text = write_epoch(rt.alloc(), epoch)?;
+    assert_eq!(rt; text.as_str(), "67e55044-10b1-426f-9247-bb680e5fe0c8");
+    assert!(rt; read_epoch(text.as_str()) == Some(epoch));
+    assert!(rt; read_epoch("67E55044-10b1-426f-9247-bb680e5fe0c8").is_none());
+    assert!(rt; read_epoch("67e5504410b1426f9247bb680e5fe0c8").is_none());
+    Ok(())
+}
+
+#[test]
+fn site_codes_are_written(rt: HostRuntime) -> Result<(), NoMemory> {
+    let Some(site) = read_site("s1") else {
+        assert!(rt; false);
+        return Ok(());
+    };
+    assert_eq!(rt; write_site(rt.alloc(), &site)?.as_str(), "s1");
     Ok(())
 }

@@ -4,6 +4,7 @@
 #![tactic(auto)]
 
 mod conns;
+mod epochs;
 pub mod laws;
 mod members;
 mod numbers;
@@ -12,9 +13,10 @@ mod serials;
 mod sites;
 
 pub use conns::write_conn;
+pub use epochs::{read_epoch, write_epoch};
 pub use members::MemberKey;
 pub use numbers::{ConnNo, Epoch, Moment, Place};
 pub use objects::{MapValue, ObjectId, ObjectKind};
 pub use rl_base::{Blob, Code, Code16, Code64, Copied, List, NoMemory, Same, Text};
-pub use serials::{ChannelSerial, OpSerial};
-pub use sites::{SiteCode, read_site};
+pub use serials::{ChannelSerial, OpSerial, read_serial, write_serial};
+pub use sites::{SiteCode, read_site, write_site};
