@@ -1,5 +1,5 @@
 -- A text cut at its first colon, and put together again.
-use Rattle.std.proofs.Common.{◌≡◌, ◌<◌, ◌+◌, ℕ, Bool, true, false, cond, List, [], ◌∷◌, ◌++◌, length, take, drop, Option, Some, None, refl, sym, ap, ap₂, subst, ◌∙◌, ltb, not, arith, length-append}
+use Rattle.std.proofs.Common.{◌≡◌, ◌<◌, ◌+◌, ℕ, suc, Bool, true, false, cond, List, [], ◌∷◌, ◌++◌, length, take, drop, Option, Some, None, refl, sym, ap, ap₂, subst, ◌∙◌, ltb, not, arith, length-append}
 use Rattle.std.specs.Prelude.{◌&&◌}
 use Rattle.std.specs.List.{list_all, position_or_len, before_first, after_first}
 use Rattle.std.proofs.lemmas.Bool.{lt-ltb}
@@ -25,7 +25,9 @@ no_colon s = list_all (λ b. not (is_colon b)) s
 
 place : (s c : List ℕ) → no_colon s ≡ true → position_or_len is_colon (s ++ 58 ∷ c) ≡ length s
 place [] c h = refl
-place (x ∷ s) c h = rw (first_true (not (is_colon x)) (no_colon s) h) (ap (λ n. 1 + n) (place s c (second_true (not (is_colon x)) (no_colon s) h)))
+place (x ∷ s) c h =
+    let k = place s c (second_true (not (is_colon x)) (no_colon s) h) in
+    rw (first_true (not (is_colon x)) (no_colon s) h) (omega (arith, k))
 
 within : (s c : List ℕ) → length s < length (s ++ 58 ∷ c)
 within s c = omega (arith, length-append s (58 ∷ c))
@@ -43,8 +45,18 @@ cursor_again c h =
 
 -- ---- what was cut has no colon in front
 
+both_true : (a b : Bool) → a ≡ true → b ≡ true → (a && b) ≡ true
+both_true true b h k = k
+both_true false b h k = absurd cc
+
+one_more : (x : ℕ) (t : List ℕ) (n : ℕ) → not (is_colon x) ≡ true → no_colon (take n t) ≡ true → no_colon (take (suc n) (x ∷ t)) ≡ true
+one_more x t n e h = both_true (not (is_colon x)) (no_colon (take n t)) e h
+
+one_plus : (n : ℕ) → 1 + n ≡ suc n
+one_plus n = omega arith
+
 front_at : (b : Bool) (x : ℕ) (t : List ℕ) → not (is_colon x) ≡ b → no_colon (take (position_or_len is_colon t) t) ≡ true → no_colon (take (cond b (1 + position_or_len is_colon t) 0) (x ∷ t)) ≡ true
-front_at true x t e h = rw (e) h
+front_at true x t e h = subst (λ m. no_colon (take m (x ∷ t)) ≡ true) (sym (one_plus (position_or_len is_colon t))) (one_more x t (position_or_len is_colon t) e h)
 front_at false x t e h = refl
 
 front : (t : List ℕ) → no_colon (before_first is_colon t) ≡ true

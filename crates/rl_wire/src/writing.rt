@@ -1,9 +1,9 @@
 ghost use Rattle.std.specs.Prelude.{◌≡◌, ◌≤◌, length, IfOk, IsUtf8, Ok, Some};
-ghost use Rattle.serde_json.specs.View.{members_view};
+ghost use Rattle.serde_json.specs.View.{view, members_view};
 ghost use Rattle.rl_types.specs.declared.frames.Frame.TheVariants as frames;
 ghost use Rattle.rl_wire.specs.Frames.{frame_at, max_length};
 ghost use Rattle.rl_wire.specs.Sendable.{IsSendable};
-ghost use Rattle.rl_wire.specs.Texts.{frame_members, frame_text};
+ghost use Rattle.rl_wire.specs.Texts.{frame_members, frame_value, frame_text};
 
 use crate::objects::{
     ack_object, action_object, attach_object, attached_object, connected_object, detach_object,
@@ -58,6 +58,12 @@ fn object_of(alloc: Global, frame: &Frame) -> Result<Object, NoMemory>
     }
 }
 
+fn value_of(alloc: Global, frame: &Frame) -> Result<Value, NoMemory>
+    ensures { IfOk result (λ v. view v ≡ frame_value frame.now) }
+{
+    Ok(Value::Object(object_of(alloc, frame)?))
+}
+
 /// The text of a frame: one JSON object, without spaces, its fields in the order of their names, absent fields
 /// left out. Where the frame is one that can be sent and its text has at most 4,194,304 bytes, it is read as
 /// the same frame again.
@@ -66,6 +72,6 @@ pub fn write_frame(alloc: Global, frame: &Frame) -> Result<Blob, NoMemory>
     ensures utf8 { IfOk result (λ b. IsUtf8 b) }
     ensures reads_back { IfOk result (λ b. IsSendable frame.now → length b ≤ max_length → frame_at b ≡ Ok (Some frame.now)) }
 {
-    let value = Value::Object(object_of(alloc, frame)?);
+    let value = value_of(alloc, frame)?;
     Ok(Blob::from_vec(value.to_vec(alloc)?))
 }
