@@ -1,4 +1,5 @@
 pub mod Apart
+pub mod Compact
 pub mod Each
 pub mod EachAt
 pub mod Flat

@@ -4,3 +4,4 @@ pub mod Fits
 pub mod Flat
 pub mod Law
 pub mod Named
+pub mod Plains

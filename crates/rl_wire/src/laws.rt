@@ -17,3 +17,9 @@ pub fn memory_is_no_fault_of_bytes()
 pub fn what_is_read_is_sendable()
     ensures { (bytes : Seq ℕ) (f : SomeFrame) → frame_at bytes ≡ Ok (Some f) → IsSendable f }
 {}
+
+/// The text of a frame that can be sent is read as the same frame, where it is UTF-8 and not too long.
+#[tactic(auto, using(crate::proofs::Law::text_again))]
+pub fn sendable_frames_read_back()
+    ensures { (f : SomeFrame) → IsSendable f → IsUtf8 (frame_text f) → length (frame_text f) ≤ max_length → frame_at (frame_text f) ≡ Ok (Some f) }
+{}
