@@ -4,6 +4,7 @@ pub mod Each
 pub mod EachAt
 pub mod Flat
 pub mod Got
+pub mod Lengths
 pub mod Listed
 pub mod Named
 pub mod Shapes

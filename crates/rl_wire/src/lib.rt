@@ -18,3 +18,5 @@ mod writing;
 pub use reading::read_frame;
 pub use writing::write_frame;
 
+#[cfg(test)]
+mod tests;
