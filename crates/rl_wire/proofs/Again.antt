@@ -22,7 +22,7 @@ use Rattle.rl_jsonfields.specs.Fields.{Reads, ◌>>=◌, whole, whole_in, text, 
 use Rattle.rl_jsonfields.specs.Texts.{num, with_some, with_text, with_number}
 use Rattle.rl_jsonfields.proofs.Got.{found, required_found, optional_found, optional_found_one, text_found, required_text_found, required_sized_found, sized_found, required_number_found, number_found, found_rules}
 use Rattle.rl_wireitems.specs.Items.{message_items, presence_items, sync_head, message_values, presence_values, sync_values, AreMessages, ArePresence}
-use Rattle.rl_wireitems.proofs.Stub.{messages_again, presence_again, sync_again, message_values_some, presence_values_some}
+use Rattle.rl_wireitems.proofs.Again.{messages_again, presence_again, sync_again, message_values_some, presence_values_some}
 use Rattle.rl_wire.specs.Frames.{max_length, max_serial, max_32, max_64, action_of, channel_serial, given_by, given_of, given_serial, cursor_of, cursor, channel, msg_serial, count, code_in, error_code, head, ack, nack, details, connection_details, connected, disconnected, error, attach, attached, detach, detached, presence, message, sync, by_action, object_frame, frame_at}
 use Rattle.rl_wire.specs.Sendable.{IsName, Fits32, Fits64, IsMsgSerial, IsCount, IsGiven, IsCursor, IsHead, IsSendable}
 use Rattle.rl_wire.specs.Texts.{action, code_name, error_value, with_error, given_text, cursor_text, head_members, details_value, frame_members, frame_value}
@@ -280,7 +280,7 @@ sync_frame_again s at is hs hc are =
     let e1 : found fields.Channel ms ≡ Some (string s) = simp found_rules in
     let e2 : found fields.ChannelSerial ms ≡ option_map string (option_map cursor_text at) = simp found_rules in
     let e3 : found fields.Presence ms ≡ Some (array (sync_values is)) = simp found_rules in
-    rw (channel_again ms s e1 hs, optional_cursor_again ms at e2 hc, optional_found_one any_items fields.Presence ms (array (sync_values is)) (sync_values is) e3 refl refl, sync_again s is are) refl
+    rw (channel_again ms s e1 hs, optional_cursor_again ms at e2 hc, optional_found_one any_items fields.Presence ms (array (sync_values is)) (sync_values is) e3 refl refl, sync_again (sync_head s) is are) refl
 
 -- ---- whole frames
 

@@ -21,7 +21,7 @@ use Rattle.rl_jsonfields.specs.declared.names.Field.TheVariants as fields
 use Rattle.rl_jsonfields.specs.Fields.{Reads, ◌>>=◌, whole, whole_in, text, text_in, an_object, any_items, not_empty, some_items, required, optional, each_at}
 use Rattle.rl_jsonfields.proofs.Shapes.{bind_ok, done, ok_is, guard_ok, some_is, required_ok, optional_ok, required_number, optional_number, required_text, optional_text}
 use Rattle.rl_wireitems.specs.Items.{message_items, presence_items, sync_head, AreMessages, ArePresence}
-use Rattle.rl_wireitems.proofs.Stub.{messages_fit, presence_fits, message_full, presence_full}
+use Rattle.rl_wireitems.proofs.Fits.{messages_fit, presence_fits, message_full, presence_full}
 use Rattle.rl_wire.specs.declared.actions.Action.{Action}
 use Rattle.rl_wire.specs.declared.actions.Action.TheVariants as actions
 use Rattle.rl_wire.specs.Frames.{max_length, max_serial, max_32, max_64, action_of, channel_serial, given_by, given_of, given_serial, cursor_of, cursor, channel, msg_serial, count, code_in, error_code, head, ack, nack, details, connection_details, connected, disconnected, error, attach, attached, detach, detached, presence, message, sync, by_action, object_frame, value_frame, json_frame, frame_at}
@@ -236,7 +236,8 @@ presence_frame_fits d f e =
     let a = bind_ok (head d) _ f e in
     let b = bind_ok (required some_items fields.Presence d) _ f a.2 in
     let c = bind_ok (presence_items a.0 b.0) _ f b.2 in
-    subst IsSendable (ok_is (frames.Presence a.0 c.0) f c.2) (head_fits d a.0 a.1, presence_full a.0 b.0 c.0 (full fields.Presence d b.0 b.1) c.1, presence_fits a.0 b.0 c.0 c.1)
+    let fits = head_fits d a.0 a.1 in
+    subst IsSendable (ok_is (frames.Presence a.0 c.0) f c.2) (fits, presence_full a.0 b.0 c.0 (full fields.Presence d b.0 b.1) c.1, presence_fits a.0 b.0 c.0 fits.3 c.1)
 
 message_fits : (d : Data) (f : Frame) → message d ≡ Ok f → IsSendable f
 unfolding message
@@ -253,7 +254,7 @@ sync_fits d f e =
     let b = bind_ok (optional cursor fields.ChannelSerial d) _ f a.2 in
     let c = bind_ok (optional any_items fields.Presence d) _ f b.2 in
     let i = bind_ok (presence_items (sync_head a.0) (unwrap_or c.0 no_items)) _ f c.2 in
-    subst IsSendable (ok_is (frames.Sync a.0 b.0 i.0) f i.2) (channel_fits d a.0 a.1, optional_cursor fields.ChannelSerial d b.0 b.1, presence_fits (sync_head a.0) (unwrap_or c.0 no_items) i.0 i.1)
+    subst IsSendable (ok_is (frames.Sync a.0 b.0 i.0) f i.2) (channel_fits d a.0 a.1, optional_cursor fields.ChannelSerial d b.0 b.1, presence_fits (sync_head a.0) (unwrap_or c.0 no_items) i.0 tt i.1)
 
 -- a frame that one action's reader gives
 given : (r : Reads Frame) (f : Frame) → ((g : Frame) → r ≡ Ok g → IsSendable g) → (r >>= λ g. Ok (Some g)) ≡ Ok (Some f) → IsSendable f

@@ -10,7 +10,7 @@ use Rattle.rl_jsonfields.specs.declared.names.Field.TheVariants as fields
 use Rattle.rl_jsonfields.specs.Names.{spelled}
 use Rattle.rl_jsonfields.proofs.Flat.{Flat, FlatMembers, put_flat, nothing, number_flat, string_flat, with_text_flat, with_number_flat, object_flat, array_flat, deeper}
 use Rattle.rl_wireitems.specs.Items.{message_values, presence_values, sync_values}
-use Rattle.rl_wireitems.proofs.Stub.{message_values_flat, presence_values_flat, sync_values_flat}
+use Rattle.rl_wireitems.proofs.Flatness.{message_values_flat, presence_values_flat, sync_values_flat}
 use Rattle.rl_wire.specs.Texts.{action, code_name, error_value, with_error, given_text, cursor_text, head_members, details_value, frame_members, frame_value}
 
 error_flat : (c : ℕ) → Flat 2 (error_value c)

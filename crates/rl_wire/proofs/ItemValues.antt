@@ -55,7 +55,7 @@ presence_values_plain h ps fits = presence_plain_at h 0 ps fits
 
 sync_plain : (p : PresenceItem) → Fits p → Plain (sync_value p)
 unfolding sync_value
-sync_plain p fits = member_plain p _ _ _ _ fits
+sync_plain p fits = member_plain p (Some p.client) (Some p.conn) (Some p.id) (Some p.stamp) fits
 
 syncs_plain : (ps : List PresenceItem) → ArePresence ps → PlainItems (items_of (map sync_value ps))
 syncs_plain [] fits = tt

@@ -9,7 +9,7 @@ use Rattle.rl_jsonfields.specs.declared.names.Field.TheVariants as fields
 use Rattle.rl_jsonfields.specs.Fields.{Reads, ◌>>=◌, whole, whole_in, text, text_in, an_object, any_items, some_items, required, optional}
 use Rattle.rl_jsonfields.proofs.Named.{Named, then_named, required_named as req, optional_named as opt, choice_named, not_memory}
 use Rattle.rl_wireitems.specs.Items.{message_items, presence_items, sync_head}
-use Rattle.rl_wireitems.proofs.Stub.{message_items_named, presence_items_named}
+use Rattle.rl_wireitems.proofs.Named.{message_items_named, presence_items_named}
 use Rattle.rl_wire.specs.declared.actions.Action.{Action}
 use Rattle.rl_wire.specs.declared.actions.Action.TheVariants as actions
 use Rattle.rl_wire.specs.Frames.{max_length, max_serial, max_32, max_64, action_of, channel_serial, given_serial, cursor, channel, msg_serial, count, code_in, error_code, head, ack, nack, details, connection_details, connected, disconnected, error, attach, attached, detach, detached, presence, message, sync, by_action, object_frame, value_frame, json_frame, frame_at}

@@ -10,7 +10,7 @@ use Rattle.rl_jsonfields.specs.declared.names.Field.TheVariants as fields
 use Rattle.rl_jsonfields.specs.Names.{spelled}
 use Rattle.rl_jsonfields.proofs.Compact.{Plain, Orderly, nothing_orderly, put_orderly, number_orderly, string_orderly, with_text_orderly, with_number_orderly}
 use Rattle.rl_wireitems.specs.Items.{message_values, presence_values, sync_values}
-use Rattle.rl_wireitems.proofs.Stub.{message_values_plain, presence_values_plain, sync_values_plain}
+use Rattle.rl_wire.proofs.ItemValues.{message_values_plain, presence_values_plain, sync_values_plain}
 use Rattle.rl_wire.specs.Frames.{max_serial}
 use Rattle.rl_wire.specs.Sendable.{Fits32, Fits64, IsMsgSerial, IsHead, IsSendable}
 use Rattle.rl_wire.specs.Texts.{action, code_name, error_value, with_error, given_text, cursor_text, head_members, details_value, frame_members, frame_value}

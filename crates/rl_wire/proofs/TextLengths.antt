@@ -17,7 +17,7 @@ use Rattle.rl_types.specs.declared.presence.PresenceItem.{PresenceItem}
 use Rattle.rl_types.specs.Weight.{option_len}
 use Rattle.rl_jsonfields.specs.declared.names.Field.TheVariants as fields
 use Rattle.rl_jsonfields.specs.Names.{spelled}
-use Rattle.rl_jsonfields.specs.Texts.{num, with_text, with_number, text_unless}
+use Rattle.rl_jsonfields.specs.Texts.{num, with_text, with_number, text_unless, number_unless}
 use Rattle.rl_jsonfields.proofs.Lengths.{bound, items_bound, members_bound, text_length, text_field_bound, number_field_bound, value_field_bound, some_text_bound, some_number_bound, text_unless_length}
 use Rattle.rl_wireitems.specs.Items.{message_value, message_values, number_of, presence_with, presence_value, presence_values, sync_value, sync_values, values_at, id_at}
 use Rattle.rl_wire.specs.Sendable.{IsSendable}
@@ -61,7 +61,7 @@ presence_length h i p =
     let client = text_unless [] p.client in
     let conn = text_unless (unwrap_or h.conn []) p.conn in
     let id = text_unless (unwrap_or (id_at h i) []) p.id in
-    omega (arith, member_length p client conn id _, text_unless_length [] p.client, text_unless_length (unwrap_or h.conn []) p.conn, text_unless_length (unwrap_or (id_at h i) []) p.id)
+    omega (arith, member_length p client conn id (number_unless (unwrap_or h.stamp 0) p.stamp), text_unless_length [] p.client, text_unless_length (unwrap_or h.conn []) p.conn, text_unless_length (unwrap_or (id_at h i) []) p.id)
 
 presence_length_at : (h : Head) (i : ℕ) (ps : List PresenceItem) → items_bound (items_of (values_at (presence_value h) i ps)) ≤ 6 * sum_by presence_bytes ps + 1000 * length ps + 1
 presence_length_at h i [] = omega arith
