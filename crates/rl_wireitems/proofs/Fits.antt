@@ -23,12 +23,12 @@ without_id (Some t) id i e = absurd cc
 message_fits : (h : Head) (i : ℕ) (d : Data) → IfOk (message_item h i d) (HasItsId h)
 unfolding message_item
 message_fits h i d =
-    then_any _ _ (HasItsId h) (λ o.
-    then_any _ _ (HasItsId h) (λ id.
-    then_any _ _ (HasItsId h) (λ name.
-    then_any _ _ (HasItsId h) (λ payload.
-    then_any _ _ (HasItsId h) (λ encoding.
-    then_any _ _ (HasItsId h) (λ client e. without_id id h.id i e))))))
+    then_any (shaped fields.Messages (an_object d)) _ (HasItsId h) (λ o.
+    then_any (optional text fields.Id o) _ (HasItsId h) (λ id.
+    then_any (optional text fields.Name o) _ (HasItsId h) (λ name.
+    then_any (optional text fields.Data o) _ (HasItsId h) (λ payload.
+    then_any (optional text fields.Encoding o) _ (HasItsId h) (λ encoding.
+    then_any (optional text fields.ClientId o) _ (HasItsId h) (λ client e. without_id id h.id i e))))))
 
 pub messages_fit : (h : Head) (ds : Items) (ms : List Item) → message_items h ds ≡ Ok ms → AreMessages h ms
 unfolding message_items
@@ -57,14 +57,14 @@ stamp_fits d = ok_by _ (λ o. IfSome o Fits) (λ o e. smaller o (optional_number
 presence_fits_one : (h : Head) → IfSome h.stamp Fits → (i : ℕ) (d : Data) → IfOk (presence_item h i d) IsMoment
 unfolding presence_item
 presence_fits_one h fits i d =
-    then_any _ _ IsMoment (λ o.
-    then_any _ _ IsMoment (λ action.
-    then_any _ _ IsMoment (λ client.
-    then_any _ _ IsMoment (λ conn.
-    then_any _ _ IsMoment (λ id.
-    then_ok _ _ (λ s. IfSome s Fits) IsMoment (stamp_fits o) (λ stamp small.
-    then_any _ _ IsMoment (λ payload.
-    then_any _ _ IsMoment (λ encoding. moment_or stamp h.stamp small fits))))))))
+    then_any (shaped fields.Presence (an_object d)) _ IsMoment (λ o.
+    then_any (required an_action fields.Action o) _ IsMoment (λ action.
+    then_any (optional text fields.ClientId o) _ IsMoment (λ client.
+    then_any (optional text fields.ConnectionId o) _ IsMoment (λ conn.
+    then_any (optional text fields.Id o) _ IsMoment (λ id.
+    then_ok (optional (whole_in 0 (2 ^ 64 - 1)) fields.Timestamp o) _ (λ s. IfSome s Fits) IsMoment (stamp_fits o) (λ stamp small.
+    then_any (optional text fields.Data o) _ IsMoment (λ payload.
+    then_any (optional text fields.Encoding o) _ IsMoment (λ encoding. moment_or stamp h.stamp small fits))))))))
 
 pub presence_fits : (h : Head) (ds : Items) (ps : List PresenceItem) → IfSome h.stamp (λ n. n < 2 ^ 64) → presence_items h ds ≡ Ok ps → ArePresence ps
 unfolding presence_items

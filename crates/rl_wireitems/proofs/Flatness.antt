@@ -1,5 +1,5 @@
 -- What is written of items has no float, and nests little.
-use Rattle.std.proofs.Common.{ℕ, ◌+◌, List, [], ◌∷◌, Option}
+use Rattle.std.proofs.Common.{ℕ, ◌+◌, List, [], ◌∷◌, Option, Some}
 use Rattle.serde_json.specs.Data.{Data, Items, no_members}
 use Rattle.serde_json.specs.View.{items_of}
 use Rattle.rl_types.specs.declared.frames.Head.{Head}
@@ -35,4 +35,4 @@ presence_values_flat h ps = all_flat (presence_value h) 0 ps (λ i p. presence_f
 
 pub sync_values_flat : (ps : List PresenceItem) → FlatItems 1 (sync_values ps)
 unfolding sync_values sync_value
-sync_values_flat ps = items_flat 1 sync_value ps (λ p. presence_flat p _ _ _ _)
+sync_values_flat ps = items_flat 1 sync_value ps (λ p. presence_flat p (Some p.client) (Some p.conn) (Some p.id) (Some p.stamp))

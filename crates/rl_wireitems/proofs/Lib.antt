@@ -3,3 +3,4 @@ pub mod Named
 pub mod Fits
 pub mod Flatness
 pub mod Again
+pub mod Written

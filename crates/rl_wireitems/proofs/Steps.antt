@@ -22,6 +22,10 @@ pub then_any : {A B : Type 0} (r : Reads A) (f : A → Reads B) (Q : B → Type 
 then_any (Ok x) f Q k = k x
 then_any (Err e) f Q k = tt
 
+pub nothing_left : {X : Type 0} (l : List X) → length l ≡ 0 → l ≡ []
+nothing_left [] h = refl
+nothing_left (x ∷ xs) h = absurd (omega arith)
+
 module _ {A : Type 0} (one : ℕ → Data → Reads A) where
   pub each_all : (P : A → Type 0) → ((i : ℕ) (d : Data) → IfOk (one i d) P) → (i : ℕ) (ds : Items) → IfOk (each_at one i ds) (All P)
   unfolding each_at

@@ -1,5 +1,5 @@
 -- The items of MESSAGE, PRESENCE and SYNC frames: how they are read, and how they are written.
-use Rattle.std.specs.Prelude.{ℕ, ◌+◌, ◌^◌, ◌-◌, ◌==◌, ◌≡◌, ◌<◌, List, [], ◌∷◌, ◌++◌, map, Option, Some, None, option_and_then, option_map, unwrap_or, Result, Ok, Err, if◌then◌else◌}
+use Rattle.std.specs.Prelude.{ℕ, ◌+◌, ◌^◌, ◌-◌, ◌==◌, ◌≡◌, ◌<◌, List, [], ◌∷◌, ◌++◌, map, Option, Some, None, option_and_then, option_map, unwrap_or, IfSome, Result, Ok, Err, if◌then◌else◌}
 use Rattle.std.specs.List.{All}
 use Rattle.std.specs.Fmt.{decimal}
 use Rattle.serde_json.specs.Data.{Data, string, object, Items, no_items, item, Members, no_members}
@@ -141,7 +141,7 @@ abbrev pub MessagesAreRead : Type 0
 MessagesAreRead = (h : Head) (ds : Items) (ms : List Item) → message_items h ds ≡ Ok ms → AreMessages h ms
 
 abbrev pub PresenceIsRead : Type 0
-PresenceIsRead = (h : Head) (ds : Items) (ps : List PresenceItem) → presence_items h ds ≡ Ok ps → ArePresence ps
+PresenceIsRead = (h : Head) (ds : Items) (ps : List PresenceItem) → IfSome h.stamp (λ n. n < 2 ^ 64) → presence_items h ds ≡ Ok ps → ArePresence ps
 
 abbrev pub MessagesAgain : Type 0
 MessagesAgain = (h : Head) (ms : List Item) → AreMessages h ms → message_items h (message_values ms) ≡ Ok ms

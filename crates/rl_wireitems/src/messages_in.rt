@@ -40,6 +40,7 @@ fn message_in(
 /// and its index, where the frame has one. It is `BadField("messages")` where an item is no object, and
 /// `BadField` with a field's name where that field is no text: the fault of the first item that has one, in
 /// the order `id`, `name`, `data`, `encoding`, `clientId`. The data is moved, not copied.
+#[tactic(auto, unfolding(rl_jsonfields::specs::Fields::each_at))]
 pub fn read_message_items(
     alloc: Global,
     head: &Head,

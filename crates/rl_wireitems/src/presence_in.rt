@@ -50,6 +50,7 @@ fn presence_in(
 /// `Missing("action")` where it has no action, and `BadField` with a field's name where that field has
 /// another shape: the fault of the first item that has one, in the order `action`, `clientId`,
 /// `connectionId`, `id`, `timestamp`, `data`, `encoding`. The data is moved, not copied.
+#[tactic(auto, unfolding(rl_jsonfields::specs::Fields::each_at))]
 pub fn read_presence_items(
     alloc: Global,
     head: &Head,

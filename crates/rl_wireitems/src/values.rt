@@ -85,9 +85,8 @@ pub fn presence_values(
     ensures { IfOk result (λ v. items_view v.items ≡ presence_values head.now items.now) }
 {
     let mut values = Vec::new(alloc);
-    for item in items.as_slice() {
-        let index = values.len() as u64;
-        values.push(presence_value(alloc, head, index, item)?)?;
+    for (i, item) in items.as_slice().iter().enumerate() {
+        values.push(presence_value(alloc, head, i as u64, item)?)?;
     }
     Ok(values)
 }

@@ -1,8 +1,10 @@
-use Rattle.std.proofs.Common.{rules, ◌≡◌, IfOk, ℕ, ◌+◌, ◌-◌, ◌*◌, ◌<◌, ◌≤◌, length, ◌/◌, ◌%◌, Bool, true, false, nat_eq, nat_lt, List, [], ◌∷◌, ◌++◌, slice_index_or, slice_set, bit_and, bit_or, Fits, w8, w32, w64, Bor, MutBor}
-use Rattle.serde_json.specs.View.{view, items_view}
-use Rattle.rl_wireitems.specs.Items.{message_value, message_values, presence_value, presence_values, sync_value, sync_values}
+use Rattle.std.proofs.Common.{ap, map, ◌∙◌}
+use Rattle.std.proofs.lemmas.List.{take_all}
+use Rattle.serde_json.specs.View.{items_of}
+use Rattle.rl_wireitems.specs.Items.{sync_value, sync_values}
 use Rattle.rl_wireitems.proofs.values.sync_values.Goals as goal
 
--- src/values.rt:96:1
 pub returns : goal.returns
-returns c = ?
+unfolding sync_values
+returns c =
+    ap items_of (c.loop-item.invariant ∙ ap (map sync_value) (take_all c.loop-item.item-index c.as_slice-item-items.result.now c.loop-item-test.false ∙ c.as_slice-item-items.ensures))
