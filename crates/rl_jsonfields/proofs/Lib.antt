@@ -1,8 +1,10 @@
 pub mod Apart
+pub mod Compact
 pub mod Each
 pub mod EachAt
 pub mod Flat
 pub mod Got
+pub mod Lengths
 pub mod Listed
 pub mod Named
 pub mod Shapes

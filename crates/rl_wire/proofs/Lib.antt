@@ -1,0 +1,9 @@
+pub mod Again
+pub mod Cuts
+pub mod Fits
+pub mod Flat
+pub mod ItemValues
+pub mod Law
+pub mod Named
+pub mod Plains
+pub mod TextLengths

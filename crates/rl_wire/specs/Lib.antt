@@ -1,0 +1,4 @@
+pub mod Frames
+pub mod Sendable
+pub mod Sizes
+pub mod Texts

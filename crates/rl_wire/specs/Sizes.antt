@@ -1,0 +1,70 @@
+-- How many bytes of texts a frame holds, and how many items.
+use Rattle.std.specs.Prelude.{ℕ, ◌+◌, List, length, Option, Some, None, sum_by}
+use Rattle.rl_types.specs.declared.frames.Cursor.{Cursor}
+use Rattle.rl_types.specs.declared.frames.Frame.{Frame}
+use Rattle.rl_types.specs.declared.frames.Frame.TheVariants as frames
+use Rattle.rl_types.specs.declared.frames.Head.{Head}
+use Rattle.rl_types.specs.declared.messages.Given.{Given}
+use Rattle.rl_types.specs.declared.messages.Given.TheVariants as given
+use Rattle.rl_types.specs.declared.messages.Item.{Item}
+use Rattle.rl_types.specs.declared.presence.PresenceItem.{PresenceItem}
+use Rattle.rl_types.specs.Weight.{option_len}
+
+abbrev pub message_bytes : Item → ℕ
+message_bytes m = option_len m.id + option_len m.name + option_len m.payload + option_len m.encoding + option_len m.client
+
+abbrev pub presence_bytes : PresenceItem → ℕ
+presence_bytes p = length p.client + length p.conn + length p.id + option_len p.payload + option_len p.encoding
+
+abbrev pub given_bytes : Option Given → ℕ
+given_bytes None = 0
+given_bytes (Some (given.Ours s)) = 0
+given_bytes (Some (given.Other t)) = length t
+
+abbrev pub cursor_bytes : Option Cursor → ℕ
+cursor_bytes None = 0
+cursor_bytes (Some c) = length c.sequence + length c.cursor
+
+abbrev pub head_bytes : Head → ℕ
+head_bytes h = length h.channel + option_len h.conn + option_len h.id
+
+-- the bytes of all texts
+abbrev pub text_bytes : Frame → ℕ
+text_bytes frames.Heartbeat = 0
+text_bytes (frames.Ack serial count) = 0
+text_bytes (frames.Nack serial count code) = 0
+text_bytes frames.Connect = 0
+text_bytes (frames.Connected conn key ttl idle size code) = length conn + length key
+text_bytes frames.Disconnect = 0
+text_bytes (frames.Disconnected code) = 0
+text_bytes frames.Close = 0
+text_bytes frames.Closed = 0
+text_bytes (frames.Error channel code) = option_len channel
+text_bytes (frames.Attach channel serial) = length channel + given_bytes serial
+text_bytes (frames.Attached channel serial flags code) = length channel
+text_bytes (frames.Detach channel) = length channel
+text_bytes (frames.Detached channel code) = length channel
+text_bytes (frames.Presence head items) = head_bytes head + sum_by presence_bytes items
+text_bytes (frames.Message head items) = head_bytes head + sum_by message_bytes items
+text_bytes (frames.Sync channel at items) = length channel + cursor_bytes at + sum_by presence_bytes items
+text_bytes frames.Auth = 0
+
+abbrev pub item_count : Frame → ℕ
+item_count frames.Heartbeat = 0
+item_count (frames.Ack serial count) = 0
+item_count (frames.Nack serial count code) = 0
+item_count frames.Connect = 0
+item_count (frames.Connected conn key ttl idle size code) = 0
+item_count frames.Disconnect = 0
+item_count (frames.Disconnected code) = 0
+item_count frames.Close = 0
+item_count frames.Closed = 0
+item_count (frames.Error channel code) = 0
+item_count (frames.Attach channel serial) = 0
+item_count (frames.Attached channel serial flags code) = 0
+item_count (frames.Detach channel) = 0
+item_count (frames.Detached channel code) = 0
+item_count (frames.Presence head items) = length items
+item_count (frames.Message head items) = length items
+item_count (frames.Sync channel at items) = length items
+item_count frames.Auth = 0

@@ -1,0 +1,67 @@
+ghost use Rattle.std.specs.Prelude.{◌≡◌, option_map, IfOk, OnOk, OnErr};
+ghost use Rattle.serde_json.specs.View.{view, members_view};
+ghost use Rattle.rl_wire.specs.Texts.{code_name, error_value, with_error};
+
+use rl_ids::NoMemory;
+use rl_jsonfields::{Field, Object, set_number, set_text, set_value};
+use serde_json::{Map, Value};
+use std::alloc::Global;
+
+/// The name of a fault's code, or `Unknown` (the codes are this project's own).
+#[tactic(auto, unfolding(crate::specs::Texts::code_name))]
+fn name_of_code(code: u32) -> &'static str
+    ensures { result.now ≡ code_name code }
+{
+    match code {
+        101 => "NotRetained",
+        102 => "KeyUnknown",
+        103 => "ChannelLimit",
+        104 => "TooLong",
+        105 => "MemberLimit",
+        106 => "UnknownObject",
+        107 => "DuplicateObject",
+        108 => "StaleId",
+        109 => "Range",
+        110 => "WrongKind",
+        111 => "Tombstoned",
+        112 => "PoolLimit",
+        113 => "BadIds",
+        114 => "NoClientId",
+        115 => "BadAction",
+        116 => "LogFull",
+        120 => "BadFrame",
+        121 => "SerialGap",
+        122 => "SerialOld",
+        123 => "Superseded",
+        124 => "Lagged",
+        125 => "ConnectionLimit",
+        126 => "Idle",
+        _ => "Unknown",
+    }
+}
+
+/// What went wrong (TI1): the code, its name, and the status code 400.
+#[tactic(auto, unfolding(crate::specs::Texts::error_value))]
+pub fn error_value(alloc: Global, code: u32) -> Result<Value, NoMemory>
+    ensures { IfOk result (λ v. view v ≡ error_value code) }
+{
+    let mut object = Map::new(alloc);
+    set_number(alloc, &mut object, Field::Code, u64::from(code))?;
+    set_text(alloc, &mut object, Field::Message, name_of_code(code))?;
+    set_number(alloc, &mut object, Field::StatusCode, 400)?;
+    Ok(Value::Object(object))
+}
+
+/// Writes what went wrong, where something did. Where memory ends the object is as before.
+pub fn set_error(alloc: Global, object: &mut Object, code: Option<u32>) -> Result<(), NoMemory>
+    ensures ok { OnOk result (members_view object.new.entries ≡ with_error code (members_view object.old.entries)) }
+    ensures err { OnErr result (object.new.entries ≡ object.old.entries) }
+{
+    match code {
+        Some(code) => {
+            let error = error_value(alloc, code)?;
+            set_value(alloc, object, Field::Error, error)
+        }
+        None => Ok(()),
+    }
+}
