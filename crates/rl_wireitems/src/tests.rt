@@ -1,6 +1,7 @@
 use super::*;
 use rl_ids::{List, Moment, NoMemory, Text};
-use rl_types::{Head, Item, PresenceAction, PresenceItem, WireFault};
+use rl_jsonfields::{Field, bad};
+use rl_types::{Head, Item, PresenceAction, PresenceItem};
 use serde_json::Value;
 use std::alloc::Global;
 use std::test::*;
@@ -18,14 +19,6 @@ fn are_written(alloc: Global, values: Vec<Value>, text: &str) -> bool {
     match Value::Array(values).to_vec(alloc) {
         Ok(bytes) => bytes.as_slice() == text.as_bytes(),
         Err(_) => false,
-    }
-}
-
-// Whether it is this field that has another shape.
-fn is_bad(read: Result<List<Item>, WireFault>, field: &str) -> bool {
-    match read {
-        Err(WireFault::BadField(name)) => name.as_str() == field,
-        _ => false,
     }
 }
 
@@ -76,7 +69,10 @@ fn messages_take_the_frames_id(rt: HostRuntime) -> Result<(), NoMemory> {
     let text = "[{\"data\":\"x\",\"id\":\"m\"},{\"id\":\"c00000001:5:1\",\"name\":\"n\"}]";
     assert!(rt; are_written(alloc, values, text));
     let values = values_of(alloc, "[{\"data\":{\"x\":1},\"clientId\":2}]");
-    assert!(rt; is_bad(read_message_items(alloc, &head, values), "data"));
+    let Err(fault) = read_message_items(alloc, &head, values) else {
+        return Err(NoMemory);
+    };
+    assert!(rt; fault == bad(Field::Data));
     Ok(())
 }
 
