@@ -1,7 +1,8 @@
 // The small types, and ids.
 use rl_ids::{
-    Blob, ChannelSerial, Code16, ConnNo, Copied, Epoch, List, MapValue, MemberKey, NoMemory, ObjectId,
-    Place, Text, read_epoch, read_serial, read_site, write_conn, write_epoch, write_serial, write_site,
+    Blob, ChannelSerial, Code16, ConnNo, Copied, Epoch, List, MapValue, MemberKey, NoMemory,
+    ObjectId, Place, Text, read_epoch, read_serial, read_site, write_conn, write_epoch,
+    write_serial, write_site,
 };
 use std::alloc::Global;
 
@@ -130,7 +131,10 @@ fn channel_serials_are_written_and_read(rt: HostRuntime) -> Result<(), NoMemory>
         place: Place(26),
     };
     let text = write_serial(rt.alloc(), &serial)?;
-    assert_eq!(rt; text.as_str(), "00000000-0000-0000-0000-000000000001:000000000000001a");
+    assert_eq!(rt;
+        text.as_str(),
+        "00000000-0000-0000-0000-000000000001:000000000000001a"
+    );
     assert!(rt; read_serial(text.as_str()) == Some(serial));
     assert!(rt; read_serial("00000000-0000-0000-0000-000000000001:000000000000001A").is_none());
     assert!(rt; read_serial("0000000000000000000000000000000000001:000000000000001a").is_none());

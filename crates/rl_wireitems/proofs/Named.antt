@@ -8,7 +8,6 @@ use Rattle.rl_jsonfields.specs.Fields.{text, whole_in, an_object}
 use Rattle.rl_jsonfields.proofs.Named.{Named, then_named, shaped_named, required_named, optional_named, each_at_named}
 use Rattle.rl_wireitems.specs.Items.{message_item, message_items, an_action, presence_item, presence_items}
 
-
 message_item_named : (h : Head) (i : ℕ) (d : Data) → Named (message_item h i d)
 unfolding message_item
 message_item_named h i d =

@@ -12,12 +12,7 @@ use serde_json::Value;
 use std::alloc::Global;
 
 #[tactic(auto, unfolding(crate::specs::Items::message_item))]
-fn message_in(
-    alloc: Global,
-    head: &Head,
-    index: u64,
-    value: Value,
-) -> Result<Item, WireFault>
+fn message_in(alloc: Global, head: &Head, index: u64, value: Value) -> Result<Item, WireFault>
     ensures { Gives result (message_item head.now index (view value)) }
 {
     let mut value = value;

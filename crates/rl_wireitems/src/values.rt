@@ -41,8 +41,20 @@ fn presence_value(
     let mut map = Map::new(alloc);
     set_number(alloc, &mut map, Field::Action, action_number(item.action))?;
     set_text_unless(alloc, &mut map, Field::ClientId, "", item.client.as_str())?;
-    set_text_unless(alloc, &mut map, Field::ConnectionId, conn, item.conn.as_str())?;
-    set_text_unless(alloc, &mut map, Field::Id, or_empty(&default), item.id.as_str())?;
+    set_text_unless(
+        alloc,
+        &mut map,
+        Field::ConnectionId,
+        conn,
+        item.conn.as_str(),
+    )?;
+    set_text_unless(
+        alloc,
+        &mut map,
+        Field::Id,
+        or_empty(&default),
+        item.id.as_str(),
+    )?;
     set_number_unless(alloc, &mut map, Field::Timestamp, stamp, item.stamp.0)?;
     set_some_text(alloc, &mut map, Field::Data, &item.payload)?;
     set_some_text(alloc, &mut map, Field::Encoding, &item.encoding)?;

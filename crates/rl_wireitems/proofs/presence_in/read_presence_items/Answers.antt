@@ -15,8 +15,8 @@ returns-in_err-presence_in c =
     let all = rw steps at at.invariant.0 ∙ c.into_iter-value-iterator.ensures.into_iter_gives.0 in
     let p = err_from_is_err_and c.from_residual.result c.from_residual.ensures.1 in
     rw (p.1, p.2) (
-      subst (λ vs. Fails c.in_err-presence_in.field-0.0 (each_at (presence_item c.args.head.now) 0 (items_view vs))) all (
-      each_stops (presence_item c.args.head.now) at.yielded c.in-Some.value (into_iter_items c.next.new.self) at.items c.in_err-presence_in.field-0.0 c.len-index.result at.invariant.2 c.len-index.ensures c.in_err-presence_in.ensures))
+    subst (λ vs. Fails c.in_err-presence_in.field-0.0 (each_at (presence_item c.args.head.now) 0 (items_view vs))) all (
+    each_stops (presence_item c.args.head.now) at.yielded c.in-Some.value (into_iter_items c.next.new.self) at.items c.in_err-presence_in.field-0.0 c.len-index.result at.invariant.2 c.len-index.ensures c.in_err-presence_in.ensures))
 
 pub loop-value-preserved : goal.loop-value-preserved
 loop-value-preserved c =
@@ -28,7 +28,8 @@ loop-value-preserved c =
           let gone = c.in-Some.ensures.steps.1 in
           let short = ap length steps in
           omega arith,
-      rw c.in_ok-push.ensures.ok (each_push (presence_item c.args.head.now) at.yielded x at.items c.in_ok-presence_in.field-0 c.len-index.result at.invariant.2 c.len-index.ensures c.in_ok-presence_in.ensures))
+      rw c.in_ok-push.ensures.ok (each_push (presence_item c.args.head.now) at.yielded x at.items c.in_ok-presence_in.field-0 c.len-index.result at.invariant.2 c.len-index.ensures c.in_ok-presence_in.ensures),
+    )
 
 pub returns : goal.returns
 unfolding presence_items
