@@ -5,5 +5,7 @@ mod book;
 mod keys;
 pub mod laws;
 mod record;
+#[cfg(test)]
+mod tests;
 
 pub use book::ConnBook;

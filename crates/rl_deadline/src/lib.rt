@@ -3,5 +3,7 @@
 
 mod deadlines;
 mod order;
+#[cfg(test)]
+mod tests;
 
 pub use deadlines::Deadlines;
