@@ -1,0 +1,191 @@
+-- What one more event makes of the book after a history.
+use Rattle.std.proofs.Common.{◌≡◌, ℕ, ◌+◌, ◌≤◌, Bool, true, false, cond, List, [], ◌∷◌, ◌++◌, length, reverse, map, refl, ap, sym, ◌∙◌, arith}
+use Rattle.std.specs.Prelude.{not, ◌==◌, ◌-◌, ◌^◌, nat_le, if◌then◌else◌}
+use Rattle.std.specs.List.{AllByRecursion, filter}
+use Rattle.std.proofs.lemmas.List.{reverse-append}
+use Rattle.std.proofs.lemmas.Bool.Decides.{nat_tests}
+use Rattle.rl_types.specs.declared.book.BookEvent.{BookEvent}
+use Rattle.rl_types.specs.declared.book.BookEvent.TheVariants.{Open, Resume, Begin, End, Lost, Close, Expire}
+use Rattle.rl_types.specs.declared.book.BookReply.{BookReply}
+use Rattle.rl_types.specs.declared.book.BookReply.TheVariants.{Opened, Limit, Resumed, KeyUnknown, Go, Known, SerialGap, SerialOld, Superseded, NoRecord, Done, Expired}
+use Rattle.rl_connbook.specs.declared.record.Record.{Record}
+use Rattle.rl_connbook.specs.Records.{Answered, concerns, is_of, story, record_of, record_of_story}
+use Rattle.rl_connbook.specs.Book.{Book, book_of, numbers, numbers_after, numbers_given, is_opened, is_over, told, opened, answered, decided, book_after, key_text, is_full}
+use Rattle.rl_connbook.specs.Steps.{after, record_after, entry_after, records_after, new_record}
+
+-- ONE RECORD
+
+step_by : (b : Bool) (a : Answered) (s : List Answered) → record_of_story (cond b (a ∷ s) s) ≡ cond b (record_after a.event a.reply (record_of_story s)) (record_of_story s)
+step_by true a s = refl
+step_by false a s = refl
+
+record_step : (n : ℕ) (a : Answered) (before : List Answered) → record_of n (a ∷ before) ≡ cond (concerns n a) (record_after a.event a.reply (record_of n before)) (record_of n before)
+record_step n a before = step_by (concerns n a) a (story n before)
+
+record_same : (n : ℕ) (a : Answered) (before : List Answered) → concerns n a ≡ false → record_of n (a ∷ before) ≡ record_of n before
+record_same n a before h = record_step n a before ∙ ap (λ (b : Bool). cond b (record_after a.event a.reply (record_of n before)) (record_of n before)) h
+
+record_new : (n : ℕ) (a : Answered) (before : List Answered) → concerns n a ≡ true → record_of n (a ∷ before) ≡ record_after a.event a.reply (record_of n before)
+record_new n a before h = record_step n a before ∙ ap (λ (b : Bool). cond b (record_after a.event a.reply (record_of n before)) (record_of n before)) h
+
+-- ALL RECORDS
+
+abbrev records_of : List Answered → List ℕ → List (ℕ × Record)
+records_of before ns = map (λ n. (n, record_of n before)) ns
+
+mapped : (a : Answered) (before : List Answered) (ns : List ℕ) → records_of (a ∷ before) ns ≡ map (entry_after a.event a.reply) (records_of before ns)
+mapped a before [] = refl
+mapped a before (n ∷ ns) =
+    ap (λ (r : Record). (n, r) ∷ records_of (a ∷ before) ns) (record_step n a before)
+    ∙ ap (λ (es : List (ℕ × Record)). (n, cond (concerns n a) (record_after a.event a.reply (record_of n before)) (record_of n before)) ∷ es) (mapped a before ns)
+
+kept_by : (now n : ℕ) (b : Bool) (before : List Answered) (ns : List ℕ) (es : List (ℕ × Record)) → records_of before ns ≡ es → records_of before (cond b (n ∷ ns) ns) ≡ cond b ((n, record_of n before) ∷ es) es
+kept_by now n true before ns es same = ap (λ (rest : List (ℕ × Record)). (n, record_of n before) ∷ rest) same
+kept_by now n false before ns es same = same
+
+kept : (now : ℕ) (before : List Answered) (ns : List ℕ) → records_of before (filter (λ n. not (is_over now (record_of n before))) ns) ≡ filter (λ e. not (is_over now e.1)) (records_of before ns)
+kept now before [] = refl
+kept now before (n ∷ ns) = kept_by now n (not (is_over now (record_of n before))) before _ _ (kept now before ns)
+
+expired_same : (now : ℕ) (reply : BookReply) (before : List Answered) (ns : List ℕ) → records_of (record { event = Expire now; reply = reply } ∷ before) ns ≡ records_of before ns
+expired_same now reply before [] = refl
+expired_same now reply before (n ∷ ns) = ap (λ (rest : List (ℕ × Record)). (n, record_of n before) ∷ rest) (expired_same now reply before ns)
+
+other : (conn n given : ℕ) → n ≤ given → conn ≡ given + 1 → (conn == n) ≡ false
+other conn n given h is = grind (arith, nat_tests)
+
+opened_same : (word now conn generation given : ℕ) (key : List ℕ) (before : List Answered) (ns : List ℕ) → conn ≡ given + 1 → AllByRecursion (λ n. n ≤ given) ns → records_of (record { event = Open word now; reply = Opened conn generation key } ∷ before) ns ≡ records_of before ns
+opened_same word now conn generation given key before [] is below = refl
+opened_same word now conn generation given key before (n ∷ ns) is below =
+    let a : Answered = record { event = Open word now; reply = Opened conn generation key } in
+    ap (λ (r : Record). (n, r) ∷ records_of (a ∷ before) ns) (record_same n a before (other conn n given below.0 is))
+    ∙ ap (λ (rest : List (ℕ × Record)). (n, record_of n before) ∷ rest) (opened_same word now conn generation given key before ns is below.1)
+
+map_append : {A B : Type 0} (f : A → B) (xs ys : List A) → map f (xs ++ ys) ≡ map f xs ++ map f ys
+map_append f [] ys = refl
+map_append f (x ∷ xs) ys = ap (λ (zs : List _). f x ∷ zs) (map_append f xs ys)
+
+self_same : (n : ℕ) → (n == n) ≡ true
+self_same n = grind (arith, nat_tests)
+
+opened_more : (word now conn generation given : ℕ) (key : List ℕ) (before : List Answered) (ns : List ℕ) → conn ≡ given + 1 → AllByRecursion (λ n. n ≤ given) ns → records_of (record { event = Open word now; reply = Opened conn generation key } ∷ before) (ns ++ conn ∷ []) ≡ records_of before ns ++ (conn, new_record key) ∷ []
+opened_more word now conn generation given key before ns is below =
+    let a : Answered = record { event = Open word now; reply = Opened conn generation key } in
+    map_append (λ n. (n, record_of n (a ∷ before))) ns (conn ∷ [])
+    ∙ ap (λ (es : List (ℕ × Record)). es ++ (conn, record_of conn (a ∷ before)) ∷ []) (opened_same word now conn generation given key before ns is below)
+    ∙ ap (λ (r : Record). records_of before ns ++ (conn, r) ∷ []) (record_new conn a before (self_same conn))
+
+-- what an Opened says is the next number
+abbrev Follows : BookEvent → BookReply → ℕ → Type 0
+Follows (Open word now) (Opened conn generation key) given = conn ≡ given + 1
+Follows event reply given = Unit {0}
+
+stay : (event : BookEvent) (reply : BookReply) (before : List Answered) → records_of (record { event = event; reply = reply } ∷ before) (numbers before) ≡ map (entry_after event reply) (records_of before (numbers before))
+stay event reply before = mapped (record { event = event; reply = reply }) before (numbers before)
+
+records_step : (event : BookEvent) (reply : BookReply) (before : List Answered) (given : ℕ) → Follows event reply given → AllByRecursion (λ n. n ≤ given) (numbers before) → records_of (record { event = event; reply = reply } ∷ before) (numbers_after event reply before (numbers before)) ≡ records_after event reply (records_of before (numbers before))
+records_step (Open word now) (Opened conn generation key) before given is below = opened_more word now conn generation given key before (numbers before) is below
+records_step (Open word now) (Limit count most) before given is below = stay (Open word now) (Limit count most) before
+records_step (Open word now) (Resumed conn generation) before given is below = stay (Open word now) (Resumed conn generation) before
+records_step (Open word now) KeyUnknown before given is below = stay (Open word now) KeyUnknown before
+records_step (Open word now) Go before given is below = stay (Open word now) Go before
+records_step (Open word now) (Known outcome) before given is below = stay (Open word now) (Known outcome) before
+records_step (Open word now) (SerialGap got expected) before given is below = stay (Open word now) (SerialGap got expected) before
+records_step (Open word now) (SerialOld got expected) before given is below = stay (Open word now) (SerialOld got expected) before
+records_step (Open word now) (Superseded newer) before given is below = stay (Open word now) (Superseded newer) before
+records_step (Open word now) NoRecord before given is below = stay (Open word now) NoRecord before
+records_step (Open word now) Done before given is below = stay (Open word now) Done before
+records_step (Open word now) (Expired conns) before given is below = stay (Open word now) (Expired conns) before
+records_step (Resume key now) reply before given is below = stay (Resume key now) reply before
+records_step (Begin conn generation serial) reply before given is below = stay (Begin conn generation serial) reply before
+records_step (End conn generation serial outcome) reply before given is below = stay (End conn generation serial outcome) reply before
+records_step (Lost conn generation now) reply before given is below = stay (Lost conn generation now) reply before
+records_step (Close conn generation) reply before given is below = stay (Close conn generation) reply before
+records_step (Expire now) reply before given is below = expired_same now reply before (numbers_after (Expire now) reply before (numbers before)) ∙ kept now before (numbers before)
+
+given_by : (b : Bool) (a : Answered) (s : List Answered) → length (cond b (a ∷ s) s) ≡ cond b (length s + 1) (length s)
+given_by true a s = omega arith
+given_by false a s = refl
+
+given_step : (a : Answered) (before : List Answered) → numbers_given (a ∷ before) ≡ cond (is_opened a.reply) (numbers_given before + 1) (numbers_given before)
+given_step a before = given_by (is_opened a.reply) a _
+
+-- THE NUMBERS
+
+grows_by : (b : Bool) (given : ℕ) → given ≤ cond b (given + 1) given
+grows_by true given = omega arith
+grows_by false given = omega arith
+
+given_grows : (a : Answered) (before : List Answered) → numbers_given before ≤ numbers_given (a ∷ before)
+given_grows a before = rw (given_step a before) (grows_by (is_opened a.reply) (numbers_given before))
+
+all_below : (m k : ℕ) (ns : List ℕ) → m ≤ k → AllByRecursion (λ n. n ≤ m) ns → AllByRecursion (λ n. n ≤ k) ns
+all_below m k [] h all = tt
+all_below m k (n ∷ ns) h all = (omega (arith, all.0, h), all_below m k ns h all.1)
+
+all_more : (k n : ℕ) (ns : List ℕ) → n ≤ k → AllByRecursion (λ n. n ≤ k) ns → AllByRecursion (λ n. n ≤ k) (ns ++ n ∷ [])
+all_more k n [] h all = (h, tt)
+all_more k n (m ∷ ns) h all = (all.0, all_more k n ns h all.1)
+
+all_kept_by : (k n : ℕ) (ns ms : List ℕ) (b : Bool) → n ≤ k → AllByRecursion (λ n. n ≤ k) ms → AllByRecursion (λ n. n ≤ k) (cond b (n ∷ ms) ms)
+all_kept_by k n ns ms true h all = (h, all)
+all_kept_by k n ns ms false h all = all
+
+all_kept : (k : ℕ) (test : ℕ → Bool) (ns : List ℕ) → AllByRecursion (λ n. n ≤ k) ns → AllByRecursion (λ n. n ≤ k) (filter test ns)
+all_kept k test [] all = tt
+all_kept k test (n ∷ ns) all = all_kept_by k n ns (filter test ns) (test n) all.0 (all_kept k test ns all.1)
+
+below_step : (event : BookEvent) (reply : BookReply) (before : List Answered) (given more : ℕ) → Follows event reply given → (is_opened reply ≡ true → more ≡ given + 1) → AllByRecursion (λ n. n ≤ more) (numbers before) → AllByRecursion (λ n. n ≤ more) (numbers_after event reply before (numbers before))
+below_step (Open word now) (Opened conn generation key) before given more is up all = all_more more conn (numbers before) (omega (arith, up refl, is)) all
+below_step (Open word now) (Limit count most) before given more is up all = all
+below_step (Open word now) (Resumed conn generation) before given more is up all = all
+below_step (Open word now) KeyUnknown before given more is up all = all
+below_step (Open word now) Go before given more is up all = all
+below_step (Open word now) (Known outcome) before given more is up all = all
+below_step (Open word now) (SerialGap got expected) before given more is up all = all
+below_step (Open word now) (SerialOld got expected) before given more is up all = all
+below_step (Open word now) (Superseded newer) before given more is up all = all
+below_step (Open word now) NoRecord before given more is up all = all
+below_step (Open word now) Done before given more is up all = all
+below_step (Open word now) (Expired conns) before given more is up all = all
+below_step (Resume key now) reply before given more is up all = all
+below_step (Begin conn generation serial) reply before given more is up all = all
+below_step (End conn generation serial outcome) reply before given more is up all = all
+below_step (Lost conn generation now) reply before given more is up all = all
+below_step (Close conn generation) reply before given more is up all = all
+below_step (Expire now) reply before given more is up all = all_kept more (λ n. not (is_over now (record_of n before))) (numbers before) all
+
+follows_by : (word now given count : ℕ) (b : Bool) → Follows (Open word now) (if b then Limit count given else Opened (given + 1) 1 (key_text (given + 1) word)) given
+follows_by word now given count true = tt
+follows_by word now given count false = refl
+
+follows : (event : BookEvent) (book : Book) → Follows event (told book event) book.given
+follows (Open word now) book = follows_by word now book.given (length book.records) (is_full book)
+follows (Resume key now) book = tt
+follows (Begin conn generation serial) book = tt
+follows (End conn generation serial outcome) book = tt
+follows (Lost conn generation now) book = tt
+follows (Close conn generation) book = tt
+follows (Expire now) book = tt
+
+numbers_below : (past : List BookEvent) → AllByRecursion (λ n. n ≤ numbers_given (decided past)) (numbers (decided past))
+numbers_below [] = tt
+numbers_below (event ∷ past) =
+    let d = decided past in
+    let reply = told (book_of d) event in
+    let more = numbers_given (answered event d ∷ d) in
+    below_step event reply d (numbers_given d) more (follows event (book_of d)) (λ opened. given_step (answered event d) d ∙ ap (λ (b : Bool). cond b (numbers_given d + 1) (numbers_given d)) opened) (all_below (numbers_given d) more (numbers d) (given_grows (answered event d) d) (numbers_below past))
+
+-- THE BOOK
+
+book_step : (past : List BookEvent) (event : BookEvent) → book_of (decided (event ∷ past)) ≡ after (book_of (decided past)) event
+book_step past event =
+    let d = decided past in
+    let a = answered event d in
+    let made : List (ℕ × Record) = records_of (a ∷ d) (numbers (a ∷ d)) in
+    let same : made ≡ records_after event a.reply (records_of d (numbers d)) = records_step event a.reply d (numbers_given d) (follows event (book_of d)) (numbers_below past) in
+    ap (λ (given : ℕ). record { given = given; records = made }) (given_step a d)
+    ∙ ap (λ (es : List (ℕ × Record)). record { given = cond (is_opened a.reply) (numbers_given d + 1) (numbers_given d); records = es }) same
+
+pub one_more : (past : List BookEvent) (event : BookEvent) → book_after (past ++ event ∷ []) ≡ after (book_after past) event
+one_more past event = ap (λ (events : List BookEvent). book_of (decided events)) (reverse-append past (event ∷ [])) ∙ book_step (reverse past) event

@@ -1,0 +1,6 @@
+pub mod Examples
+pub mod History
+pub mod Changes
+pub mod Finding
+pub mod Opening
+pub mod Expiring

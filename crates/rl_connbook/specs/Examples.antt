@@ -1,0 +1,33 @@
+-- Examples of what the book replies.
+use Rattle.std.specs.Prelude.{◌≡◌, ℕ, List, [], ◌∷◌, map, reverse, codes, Some, None}
+use Rattle.rl_types.specs.declared.book.BookEvent.{BookEvent}
+use Rattle.rl_types.specs.declared.book.BookEvent.TheVariants.{Open, Resume, Begin, End, Lost, Close, Expire}
+use Rattle.rl_types.specs.declared.book.BookReply.{BookReply}
+use Rattle.rl_types.specs.declared.book.BookReply.TheVariants.{Opened, Limit, Resumed, KeyUnknown, Go, Known, SerialGap, SerialOld, Superseded, NoRecord, Done, Expired}
+use Rattle.rl_types.specs.declared.channel.Outcome.TheVariants.{Taken}
+use Rattle.rl_connbook.specs.Records.{Answered}
+use Rattle.rl_connbook.specs.Book.{decided}
+
+-- the replies to these events in turn, of a new book
+abbrev pub replies : List BookEvent → List BookReply
+replies events = reverse (map (λ (a : Answered). a.reply) (decided (reverse events)))
+
+abbrev pub key : List ℕ
+key = codes "c00000001!0000000000000007"
+
+pub record Replies : Type 0 where
+  -- one connection through all kinds of events
+  pub once : replies (Open 7 0 ∷ Begin 1 1 5 ∷ Begin 1 1 7 ∷ End 1 1 5 (Some (Taken 1)) ∷ Begin 1 1 5 ∷ Resume key 0 ∷ Begin 1 1 6 ∷ Begin 1 2 3 ∷ Close 1 2 ∷ Expire 0 ∷ Lost 1 3 0 ∷ [])
+      ≡ Opened 1 1 key ∷ Go ∷ SerialGap 7 0 ∷ Done ∷ Known (Taken 1) ∷ Resumed 1 2 ∷ Superseded 2 ∷ SerialOld 3 6 ∷ Done ∷ Expired (1 ∷ []) ∷ NoRecord ∷ []
+  -- a lost connection is given up after 120 seconds, and not one millisecond earlier
+  pub given_up : replies (Open 7 0 ∷ Lost 1 1 0 ∷ Expire 119999 ∷ Expire 120000 ∷ Resume key 120000 ∷ Open 7 120000 ∷ [])
+      ≡ Opened 1 1 key ∷ Done ∷ Expired [] ∷ Expired (1 ∷ []) ∷ KeyUnknown ∷ Opened 2 1 (codes "c00000002!0000000000000007") ∷ []
+  -- one that came back in time stays
+  pub came_back : replies (Open 7 0 ∷ Lost 1 1 0 ∷ Resume key 120000 ∷ Expire 120000 ∷ Resume key 120000 ∷ [])
+      ≡ Opened 1 1 key ∷ Done ∷ Resumed 1 2 ∷ Expired [] ∷ Resumed 1 3 ∷ []
+  -- one with a call in flight stays until the call has ended, and an earlier generation's call ends it
+  pub in_flight : replies (Open 7 0 ∷ Begin 1 1 0 ∷ Lost 1 1 0 ∷ Resume key 0 ∷ Lost 1 2 0 ∷ Expire 120000 ∷ End 1 1 0 (Some (Taken 1)) ∷ Expire 120000 ∷ Resume key 120000 ∷ [])
+      ≡ Opened 1 1 key ∷ Go ∷ Done ∷ Resumed 1 2 ∷ Done ∷ Expired [] ∷ Superseded 2 ∷ Expired (1 ∷ []) ∷ KeyUnknown ∷ []
+  -- an outcome that an earlier generation's call left is known to the next one
+  pub left_behind : replies (Open 7 0 ∷ Begin 1 1 0 ∷ Lost 1 1 0 ∷ Resume key 0 ∷ Begin 1 2 0 ∷ End 1 1 0 (Some (Taken 1)) ∷ Begin 1 2 0 ∷ End 1 1 5 (Some (Taken 2)) ∷ Begin 1 2 5 ∷ [])
+      ≡ Opened 1 1 key ∷ Go ∷ Done ∷ Resumed 1 2 ∷ Go ∷ Superseded 2 ∷ Known (Taken 1) ∷ Superseded 2 ∷ SerialGap 5 1 ∷ []

@@ -1,0 +1,5 @@
+pub mod Records
+pub mod Book
+pub mod Steps
+pub mod Sound
+pub mod Examples

@@ -1,0 +1,257 @@
+ghost use Rattle.std.specs.Prelude.{◌≡◌, ℕ, [], true, map, Some, IfOk, OnOk, OnErr, IsOk};
+ghost use Rattle.std.specs.List.{filter};
+ghost use Rattle.std.specs.List.Sorted.{IsStrictlySortedBy};
+ghost use Rattle.std.specs.Map.{keys_of};
+ghost use Rattle.std.specs.Ordering.{nat_cmp};
+ghost use Rattle.rl_types.specs.declared.book.BookEvent.{BookEvent};
+ghost use Rattle.rl_connbook.specs.Book.{told, book_after, is_full, is_over, is_spare};
+ghost use Rattle.rl_connbook.specs.Steps.{after, without_all};
+
+use crate::keys::{key_text, number_in};
+use crate::record::Record;
+use rl_ids::{ConnNo, Copied, List, Moment, NoMemory, Text};
+use rl_turnlock::Machine;
+use rl_types::{BookEvent, BookReply, Outcome};
+use std::alloc::Global;
+use std::collections::BTreeMap;
+use std::marker::Model;
+
+const MAX_RECORDS: usize = 1024;
+
+#[derive(Drop)]
+pub struct ConnBook {
+    given: u32,
+    records: BTreeMap<u32, Record>,
+}
+
+impl Model for ConnBook {
+    ghost use Rattle.rl_connbook.specs.Book.{Book};
+    ghost use Rattle.rl_connbook.specs.Sound.{IsSound};
+
+    ghost Value = { Book };
+
+    ghost view = { λ b. record { given = b.given; records = b.records.entries } };
+
+    ghost invariant = { λ b. IsSound b.given b.records.entries };
+}
+
+// Removes the records of these connections.
+#[tactic(auto, using(std::proofs::lemmas::List::Sums::fold_push))]
+fn remove_all(records: &mut BTreeMap<u32, Record>, conns: &[ConnNo])
+    ensures entries { records.new.entries ≡ without_all records.old.entries conns.now }
+{
+    for conn in conns {
+        records.remove(&conn.0);
+    }
+}
+
+impl ConnBook {
+    /// A book in which no connection stands, and that gave no number.
+    pub fn new(alloc: Global) -> Result<ConnBook, NoMemory>
+        ensures { IfOk result (λ book. book ≡ book_after []) }
+    {
+        Ok(ConnBook {
+            given: 0,
+            records: BTreeMap::new(alloc),
+        })
+    }
+
+    // Whether no connection more can be opened.
+    fn is_full(&self) -> bool
+        ensures { result ≡ is_full self.now }
+    {
+        self.records.len() >= MAX_RECORDS || self.given == u32::MAX
+    }
+
+    fn open(&mut self, alloc: Global, word: u64) -> Result<BookReply, NoMemory>
+        ensures reply { (now : ℕ) → IfOk result (λ reply. reply ≡ told self.old (BookEvent.Open word now)) }
+        ensures new { (now : ℕ) → OnOk result (self.new ≡ after self.old (BookEvent.Open word now)) }
+        ensures err { OnErr result (self.new ≡ self.old) }
+    {
+        if self.is_full() {
+            return Ok(BookReply::Limit {
+                count: self.records.len(),
+                given: self.given,
+            });
+        }
+        let conn = self.given + 1;
+        let key = key_text(alloc, conn, word)?;
+        let shown = key.copy(alloc)?;
+        self.records.insert(conn, Record::new(alloc, key))?;
+        self.given = conn;
+        Ok(BookReply::Opened {
+            conn: ConnNo(conn),
+            generation: 1,
+            key: shown,
+        })
+    }
+
+    fn resume(&mut self, key: &Text) -> BookReply
+        ensures reply { (now : ℕ) → result ≡ told self.old (BookEvent.Resume key.now now) }
+        ensures new { (now : ℕ) → self.new ≡ after self.old (BookEvent.Resume key.now now) }
+    {
+        let number = number_in(key.as_bytes());
+        let Some(record) = self.records.get_mut(&number) else {
+            return BookReply::KeyUnknown;
+        };
+        if !record.may_resume(key) {
+            return BookReply::KeyUnknown;
+        }
+        record.resume();
+        BookReply::Resumed {
+            conn: ConnNo(number),
+            generation: record.generation,
+        }
+    }
+
+    fn begin(&mut self, conn: ConnNo, generation: u64, serial: u64) -> BookReply
+        ensures reply { result ≡ told self.old (BookEvent.Begin conn generation serial) }
+        ensures new { self.new ≡ after self.old (BookEvent.Begin conn generation serial) }
+    {
+        let Some(record) = self.records.get_mut(&conn.0) else {
+            return BookReply::NoRecord;
+        };
+        if generation < record.generation {
+            return BookReply::Superseded {
+                newer: record.generation,
+            };
+        }
+        record.begin(serial)
+    }
+
+    fn end(
+        &mut self,
+        conn: ConnNo,
+        generation: u64,
+        serial: u64,
+        outcome: Option<Outcome>,
+    ) -> Result<BookReply, NoMemory>
+        ensures reply { IfOk result (λ reply. reply ≡ told self.old (BookEvent.End conn generation serial outcome)) }
+        ensures new { OnOk result (self.new ≡ after self.old (BookEvent.End conn generation serial outcome)) }
+        ensures err { OnErr result (self.new ≡ self.old) }
+    {
+        let Some(record) = self.records.get_mut(&conn.0) else {
+            return Ok(BookReply::NoRecord);
+        };
+        let newer = record.generation;
+        if generation < newer {
+            record.end_late(serial, outcome)?;
+            return Ok(BookReply::Superseded { newer });
+        }
+        record.end(serial, outcome)?;
+        Ok(BookReply::Done)
+    }
+
+    fn lose(&mut self, conn: ConnNo, generation: u64, now: Moment) -> BookReply
+        ensures reply { result ≡ told self.old (BookEvent.Lost conn generation now) }
+        ensures new { self.new ≡ after self.old (BookEvent.Lost conn generation now) }
+    {
+        let Some(record) = self.records.get_mut(&conn.0) else {
+            return BookReply::NoRecord;
+        };
+        if generation < record.generation {
+            return BookReply::Superseded {
+                newer: record.generation,
+            };
+        }
+        record.lose(now);
+        BookReply::Done
+    }
+
+    fn close(&mut self, conn: ConnNo, generation: u64) -> BookReply
+        ensures reply { result ≡ told self.old (BookEvent.Close conn generation) }
+        ensures new { self.new ≡ after self.old (BookEvent.Close conn generation) }
+    {
+        let Some(record) = self.records.get_mut(&conn.0) else {
+            return BookReply::NoRecord;
+        };
+        if generation < record.generation {
+            return BookReply::Superseded {
+                newer: record.generation,
+            };
+        }
+        record.close();
+        BookReply::Done
+    }
+
+    // The connections that are over, in order.
+    fn over(&self, alloc: Global, now: Moment) -> Result<List<ConnNo>, NoMemory>
+        ensures conns { IfOk result (λ conns. conns ≡ map (λ e. e.0) (filter (λ e. is_over now e.1) self.now.records)) }
+        ensures ordered { IsStrictlySortedBy nat_cmp (keys_of self.now.records) }
+    {
+        let mut conns = List::new(alloc);
+        for (conn, record) in self.records.iter() {
+            if record.is_over(now) {
+                conns.push(ConnNo(*conn))?;
+            }
+        }
+        Ok(conns)
+    }
+
+    fn expire(&mut self, alloc: Global, now: Moment) -> Result<BookReply, NoMemory>
+        ensures reply { IfOk result (λ reply. reply ≡ told self.old (BookEvent.Expire now)) }
+        ensures new { OnOk result (self.new ≡ after self.old (BookEvent.Expire now)) }
+        ensures err { OnErr result (self.new ≡ self.old) }
+    {
+        let conns = self.over(alloc, now)?;
+        remove_all(&mut self.records, conns.as_slice());
+        Ok(BookReply::Expired(conns))
+    }
+
+    // Takes one event, by what the book keeps alone.
+    fn step(&mut self, alloc: Global, event: BookEvent) -> Result<BookReply, NoMemory>
+        ensures reply { IfOk result (λ reply. reply ≡ told self.old event) }
+        ensures new { OnOk result (self.new ≡ after self.old event) }
+        ensures err { OnErr result (self.new ≡ self.old) }
+        ensures spare { is_spare event ≡ true → IsOk result }
+    {
+        match event {
+            BookEvent::Open { word, now: _ } => self.open(alloc, word),
+            BookEvent::Resume { key, now: _ } => Ok(self.resume(&key)),
+            BookEvent::Begin {
+                conn,
+                generation,
+                serial,
+            } => Ok(self.begin(conn, generation, serial)),
+            BookEvent::End {
+                conn,
+                generation,
+                serial,
+                outcome,
+            } => self.end(conn, generation, serial, outcome),
+            BookEvent::Lost {
+                conn,
+                generation,
+                now,
+            } => Ok(self.lose(conn, generation, now)),
+            BookEvent::Close { conn, generation } => Ok(self.close(conn, generation)),
+            BookEvent::Expire { now } => self.expire(alloc, now),
+        }
+    }
+}
+
+impl Machine for ConnBook {
+    type Event = BookEvent;
+
+    type Reply = BookReply;
+
+    type Setup = ();
+
+    ghost use Rattle.std.specs.Prelude.{◌≡◌};
+    ghost use Rattle.rl_connbook.specs.Book.{book_after, reply_after, is_spare};
+
+    ghost stands = { λ book past. book ≡ book_after past };
+
+    ghost setup = { λ _. tt };
+
+    ghost any_setup = { tt };
+
+    ghost reply = { λ _ past event. reply_after past event };
+
+    ghost is_spare = { is_spare };
+
+    #[tactic(auto, using(crate::proofs::History::one_more))]
+    fn take(&mut self, alloc: Global, event: BookEvent) -> Result<BookReply, NoMemory> {
+        self.step(alloc, event)
+    }
+}

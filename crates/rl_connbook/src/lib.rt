@@ -1,0 +1,11 @@
+//! The book of connections: which stand, which transport of each is the current one, and how far its puts have come.
+#![tactic(auto)]
+
+mod book;
+mod keys;
+pub mod laws;
+mod record;
+#[cfg(test)]
+mod tests;
+
+pub use book::ConnBook;

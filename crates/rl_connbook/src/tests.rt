@@ -1,0 +1,99 @@
+// What no clause says: that calls succeed where memory lasts.
+use crate::ConnBook;
+use rl_ids::{ConnNo, List, Moment, NoMemory, Text};
+use rl_turnlock::Machine;
+use rl_types::{BookEvent, BookReply, Outcome};
+use std::alloc::Global;
+use std::test::Fail;
+
+const KEY: &str = "c00000001!0000000000000007";
+
+fn begin(generation: u64, serial: u64) -> BookEvent {
+    BookEvent::Begin {
+        conn: ConnNo(1),
+        generation,
+        serial,
+    }
+}
+
+// One connection through all kinds of events.
+fn events(alloc: Global) -> Result<Vec<BookEvent>, NoMemory> {
+    let mut events = Vec::new(alloc);
+    let now = Moment(0);
+    events.push(BookEvent::Open { word: 7, now })?;
+    events.push(begin(1, 5))?;
+    events.push(begin(1, 7))?;
+    events.push(BookEvent::End {
+        conn: ConnNo(1),
+        generation: 1,
+        serial: 5,
+        outcome: Some(Outcome::Taken(rl_ids::Place(1))),
+    })?;
+    events.push(begin(1, 5))?;
+    events.push(BookEvent::Resume {
+        key: Text::from_str(alloc, KEY)?,
+        now,
+    })?;
+    events.push(begin(1, 6))?;
+    events.push(begin(2, 3))?;
+    events.push(BookEvent::Close {
+        conn: ConnNo(1),
+        generation: 2,
+    })?;
+    events.push(BookEvent::Expire { now })?;
+    events.push(BookEvent::Lost {
+        conn: ConnNo(1),
+        generation: 3,
+        now,
+    })?;
+    Ok(events)
+}
+
+// What they are answered.
+fn wanted(alloc: Global) -> Result<Vec<BookReply>, NoMemory> {
+    let mut replies = Vec::new(alloc);
+    replies.push(BookReply::Opened {
+        conn: ConnNo(1),
+        generation: 1,
+        key: Text::from_str(alloc, KEY)?,
+    })?;
+    replies.push(BookReply::Go)?;
+    replies.push(BookReply::SerialGap {
+        got: 7,
+        expected: 0,
+    })?;
+    replies.push(BookReply::Done)?;
+    replies.push(BookReply::Known(Outcome::Taken(rl_ids::Place(1))))?;
+    replies.push(BookReply::Resumed {
+        conn: ConnNo(1),
+        generation: 2,
+    })?;
+    replies.push(BookReply::Superseded { newer: 2 })?;
+    replies.push(BookReply::SerialOld {
+        got: 3,
+        expected: 6,
+    })?;
+    replies.push(BookReply::Done)?;
+    let mut expired = List::new(alloc);
+    expired.push(ConnNo(1))?;
+    replies.push(BookReply::Expired(expired))?;
+    replies.push(BookReply::NoRecord)?;
+    Ok(replies)
+}
+
+fn replies(alloc: Global, events: Vec<BookEvent>) -> Result<Vec<BookReply>, NoMemory> {
+    let mut book = ConnBook::new(alloc)?;
+    let mut replies = Vec::new(alloc);
+    for event in events {
+        replies.push(book.take(alloc, event)?)?;
+    }
+    Ok(replies)
+}
+
+#[test]
+fn a_connection_goes_through_all_kinds_of_events(rt: HostRuntime) -> Result<(), Fail> {
+    let alloc = rt.alloc();
+    let got = replies(alloc, events(alloc)?)?;
+    assert_eq!(rt; got.as_slice(), wanted(alloc)?.as_slice());
+    Ok(())
+}

@@ -1,0 +1,12 @@
+use Rattle.std.proofs.Common.{rules, arith, ◌≡◌, ◌<◌, ◌≤◌, List, ℕ, length, OnOk, OnErr, IsOk, vec_len, vec_capacity, ◌+◌, ◌-◌, ◌*◌, ◌/◌, ◌%◌, Bool, true, false, nat_eq, nat_lt, [], ◌∷◌, ◌++◌, slice_index_or, slice_set, bit_and, bit_or, Fits, w8, w32, w64, Bor, MutBor}
+use Rattle.rl_deadline.specs.Order.{put, is_before}
+use Rattle.rl_deadline.specs.Ranked.{IsRanked, IsPlaceOf}
+use Rattle.std.proofs.lemmas.Fn.{always_returns_same}
+use Rattle.rl_deadline.proofs.Places.{is_parted}
+use Rattle.rl_deadline.proofs.order.place_of.Goals as goal
+
+-- src/order.rt:15:1
+pub returns-clause-place : goal.returns-clause-place
+returns-clause-place c = λ ranked.
+    let h = c.partition_point.ensures.partitioned (λ q. is_before q c.args.deadline) (always_returns_same _ _ _ (λ a r f k. search rules)) (is_parted c.args.deadline c.args.order.now ranked) in
+    record { within = omega arith; below = h.0; above = h.1 }
