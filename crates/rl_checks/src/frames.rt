@@ -51,9 +51,18 @@ fn book_events_are_copied(rt: HostRuntime) -> Result<(), NoMemory> {
     let serial = 5;
     assert!(rt; is_copied(rt.alloc(), &BookEvent::Open { word: 7, now })?);
     assert!(rt; is_copied(rt.alloc(), &BookEvent::Resume { key, now })?);
-    let begin = BookEvent::Begin { conn, generation, serial };
+    let begin = BookEvent::Begin {
+        conn,
+        generation,
+        serial,
+    };
     assert!(rt; is_copied(rt.alloc(), &begin)?);
-    let end = BookEvent::End { conn, generation, serial, outcome };
+    let end = BookEvent::End {
+        conn,
+        generation,
+        serial,
+        outcome,
+    };
     assert!(rt; is_copied(rt.alloc(), &end)?);
     Ok(())
 }
@@ -63,7 +72,16 @@ fn small_book_events_are_copied(rt: HostRuntime) -> Result<(), NoMemory> {
     let now = Moment(3);
     let conn = ConnNo(1);
     let generation = 1;
-    assert!(rt; is_copied(rt.alloc(), &BookEvent::Lost { conn, generation, now })?);
+    assert!(rt;
+        is_copied(
+            rt.alloc(),
+            &BookEvent::Lost {
+                conn,
+                generation,
+                now
+            }
+        )?
+    );
     assert!(rt; is_copied(rt.alloc(), &BookEvent::Close { conn, generation })?);
     assert!(rt; is_copied(rt.alloc(), &BookEvent::Expire { now })?);
     Ok(())
@@ -78,7 +96,11 @@ fn book_replies_are_copied(rt: HostRuntime) -> Result<(), NoMemory> {
     let conn = ConnNo(1);
     let generation = 1;
     let key = Text::from_str(rt.alloc(), "k")?;
-    let opened = BookReply::Opened { conn, generation, key };
+    let opened = BookReply::Opened {
+        conn,
+        generation,
+        key,
+    };
     assert!(rt; is_reply_copied(rt.alloc(), opened)?);
     assert!(rt; is_reply_copied(rt.alloc(), BookReply::Limit { count: 1, given: 2 })?);
     assert!(rt; is_reply_copied(rt.alloc(), BookReply::Resumed { conn, generation })?);
@@ -90,8 +112,24 @@ fn book_replies_are_copied(rt: HostRuntime) -> Result<(), NoMemory> {
 
 #[test]
 fn other_book_replies_are_copied(rt: HostRuntime) -> Result<(), NoMemory> {
-    assert!(rt; is_reply_copied(rt.alloc(), BookReply::SerialGap { got: 7, expected: 0 })?);
-    assert!(rt; is_reply_copied(rt.alloc(), BookReply::SerialOld { got: 3, expected: 6 })?);
+    assert!(rt;
+        is_reply_copied(
+            rt.alloc(),
+            BookReply::SerialGap {
+                got: 7,
+                expected: 0
+            }
+        )?
+    );
+    assert!(rt;
+        is_reply_copied(
+            rt.alloc(),
+            BookReply::SerialOld {
+                got: 3,
+                expected: 6
+            }
+        )?
+    );
     assert!(rt; is_reply_copied(rt.alloc(), BookReply::Superseded { newer: 2 })?);
     assert!(rt; is_reply_copied(rt.alloc(), BookReply::NoRecord)?);
     assert!(rt; is_reply_copied(rt.alloc(), BookReply::Done)?);

@@ -49,17 +49,33 @@ fn faults_have_their_fields(rt: HostRuntime) {
             "action",
         ),
         ("{\"action\":1,\"msgSerial\":0,\"count\":0}", false, "count"),
-        ("{\"action\":1,\"msgSerial\":9007199254740992}", false, "msgSerial"),
+        (
+            "{\"action\":1,\"msgSerial\":9007199254740992}",
+            false,
+            "msgSerial",
+        ),
         (
             "{\"action\":14,\"channel\":\"room\",\"msgSerial\":0,\"presence\":[]}",
             false,
             "presence",
         ),
         ("{\"action\":12,\"channel\":\"\"}", false, "channel"),
-        ("{\"action\":11,\"channel\":\"room\",\"channelSerial\":\"abc\"}", false, "channelSerial"),
-        ("{\"action\":16,\"channel\":\"room\",\"channelSerial\":\"1\"}", false, "channelSerial"),
+        (
+            "{\"action\":11,\"channel\":\"room\",\"channelSerial\":\"abc\"}",
+            false,
+            "channelSerial",
+        ),
+        (
+            "{\"action\":16,\"channel\":\"room\",\"channelSerial\":\"1\"}",
+            false,
+            "channelSerial",
+        ),
         ("{\"action\":9,\"error\":{}}", true, "code"),
-        ("{\"action\":9,\"error\":1,\"channel\":\"\"}", false, "channel"),
+        (
+            "{\"action\":9,\"error\":1,\"channel\":\"\"}",
+            false,
+            "channel",
+        ),
     ] {
         assert!(rt; fails(rt.alloc(), text, missing, field), "{text}");
     }
@@ -70,19 +86,39 @@ fn other_bytes_are_told_apart(rt: HostRuntime) {
     let alloc = rt.alloc();
     assert!(rt; matches!(read_frame(alloc, b"{\"action\":99}"), Ok(None)));
     assert!(rt; matches!(read_frame(alloc, b"{\"action\":-3}"), Ok(None)));
-    assert!(rt; matches!(read_frame(alloc, b"{\"action\":19,\"channel\":1}"), Ok(None)));
+    assert!(rt;
+        matches!(
+            read_frame(alloc, b"{\"action\":19,\"channel\":1}"),
+            Ok(None)
+        )
+    );
     assert!(rt; matches!(read_frame(alloc, b"[1]"), Err(WireFault::NotObject)));
     assert!(rt; matches!(read_frame(alloc, b"{"), Err(WireFault::NotJson)));
-    assert!(rt; matches!(read_frame(alloc, NESTED.as_bytes()), Err(WireFault::NotJson)));
+    assert!(rt;
+        matches!(
+            read_frame(alloc, NESTED.as_bytes()),
+            Err(WireFault::NotJson)
+        )
+    );
     assert!(rt; matches!(read_frame(alloc, &[255u8]), Err(WireFault::NotText)));
 }
 
 #[test]
 fn long_bytes_are_refused(rt: HostRuntime) -> Result<(), NoMemory> {
     let mut bytes = Vec::from_elem(rt.alloc(), b' ', 4_194_305)?;
-    assert!(rt; matches!(read_frame(rt.alloc(), bytes.as_slice()), Err(WireFault::TooLong)));
+    assert!(rt;
+        matches!(
+            read_frame(rt.alloc(), bytes.as_slice()),
+            Err(WireFault::TooLong)
+        )
+    );
     bytes.truncate(4_194_304);
-    assert!(rt; matches!(read_frame(rt.alloc(), bytes.as_slice()), Err(WireFault::NotJson)));
+    assert!(rt;
+        matches!(
+            read_frame(rt.alloc(), bytes.as_slice()),
+            Err(WireFault::NotJson)
+        )
+    );
     Ok(())
 }
 
@@ -124,7 +160,13 @@ fn frames_are_read(rt: HostRuntime) -> Result<(), NoMemory> {
         channel: Text::from_str(alloc, "room")?,
         serial: Some(Given::Other(Text::from_str(alloc, "abc")?)),
     };
-    assert!(rt; is_frame(alloc, "{\"action\":10,\"channel\":\"room\",\"channelSerial\":\"abc\"}", &abc));
+    assert!(rt;
+        is_frame(
+            alloc,
+            "{\"action\":10,\"channel\":\"room\",\"channelSerial\":\"abc\"}",
+            &abc
+        )
+    );
     let attached = Frame::Attached {
         channel: Text::from_str(alloc, "room")?,
         serial: ChannelSerial {
@@ -165,11 +207,13 @@ fn a_page_of_members_is_read(rt: HostRuntime) -> Result<(), NoMemory> {
         }),
         items,
     };
-    let text = "{\"action\":16,\"channel\":\"room\",\"channelSerial\":\"1:a:b\",\"presence\":[{\"action\":1,\"clientId\":\"w\",\"connectionId\":\"c00000001\",\"data\":\"on\",\"id\":\"\",\"timestamp\":0}]}";
+    let text =
+        "{\"action\":16,\"channel\":\"room\",\"channelSerial\":\"1:a:b\",\"presence\":[{\"action\":1,\"clientId\":\"w\",\"connectionId\":\"c00000001\",\"data\":\"on\",\"id\":\"\",\"timestamp\":0}]}";
     assert!(rt; is_frame(alloc, text, &page));
     assert!(rt; is_written(alloc, text)?);
     Ok(())
 }
 
 // An object with 200 nested lists.
-const NESTED: &str = "{\"x\":[[[[[[[[[[[[[[[[[[[[[[[[[[[[[[[[[[[[[[[[[[[[[[[[[[[[[[[[[[[[[[[[[[[[[[[[[[[[[[[[[[[[[[[[[[[[[[[[[[[[[[[[[[[[[[[[[[[[[[[[[[[[[[[[[[[[[[[[[[[[[[[[[[[[[[[[[[[[[[[[[[[[[[[[[[[[[[[[[[[[[[[[[[[[[[[[[[[[[[[[]]]]]]]]]]]]]]]]]]]]]]]]]]]]]]]]]]]]]]]]]]]]]]]]]]]]]]]]]]]]]]]]]]]]]]]]]]]]]]]]]]]]]]]]]]]]]]]]]]]]]]]]]]]]]]]]]]]]]]]]]]]]]]]]]]]]]]]]]]]]]]]]]]]]]]]]]]]]]]]]]]]]]]]]]]]]]]]]]]]]]]]]]]]]]]]]]]]]]]]]}";
+const NESTED: &str =
+    "{\"x\":[[[[[[[[[[[[[[[[[[[[[[[[[[[[[[[[[[[[[[[[[[[[[[[[[[[[[[[[[[[[[[[[[[[[[[[[[[[[[[[[[[[[[[[[[[[[[[[[[[[[[[[[[[[[[[[[[[[[[[[[[[[[[[[[[[[[[[[[[[[[[[[[[[[[[[[[[[[[[[[[[[[[[[[[[[[[[[[[[[[[[[[[[[[[[[[[[[[[[[[[]]]]]]]]]]]]]]]]]]]]]]]]]]]]]]]]]]]]]]]]]]]]]]]]]]]]]]]]]]]]]]]]]]]]]]]]]]]]]]]]]]]]]]]]]]]]]]]]]]]]]]]]]]]]]]]]]]]]]]]]]]]]]]]]]]]]]]]]]]]]]]]]]]]]]]]]]]]]]]]]]]]]]]]]]]]]]]]]]]]]]]]]]]]]]]]]]]]]]]]]}";
