@@ -2,4 +2,3 @@ pub mod Fed
 pub mod Places
 pub mod Shown
 pub mod Worlds
-pub mod Small
