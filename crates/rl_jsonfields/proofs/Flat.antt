@@ -1,5 +1,5 @@
 -- A written value has no float, and nests little.
-use Rattle.std.proofs.Common.{option_map, map, ◌≡◌, ℕ, ◌≤◌, ◌+◌, ◌∷◌, [], List, Bool, true, false, ◌||◌, Option, Some, None, Ordering, Less, Equal, Greater, refl, arith}
+use Rattle.std.proofs.Common.{map, ◌≡◌, ℕ, ◌≤◌, ◌+◌, ◌∷◌, [], List, Bool, true, false, ◌||◌, Option, Some, None, Ordering, Less, Equal, Greater, refl, arith}
 use Rattle.std.specs.Prelude.{IfSome}
 use Rattle.std.specs.Ordering.{nat_cmp, match_ordering}
 use Rattle.std.specs.Cmp.Lexicographic.{slice_cmp}

@@ -1,5 +1,5 @@
 -- No reader of fields answers want of memory, or that the bytes are no object.
-use Rattle.std.proofs.Common.{◌≡◌, ℕ, ◌+◌, Bool, true, false, cond, List, Option, Some, None, Ok, Err, subst}
+use Rattle.std.proofs.Common.{◌≡◌, ℕ, ◌+◌, Bool, true, false, cond, Option, Some, None, Ok, Err, subst}
 use Rattle.std.specs.Prelude.{⊤}
 use Rattle.serde_json.specs.Data.{Data, Items, no_items, item}
 use Rattle.rl_types.specs.declared.frames.WireFault.{WireFault}

@@ -1,6 +1,6 @@
 -- What holds of a value that was read: steps, shapes, fields.
-use Rattle.std.proofs.Common.{◌≡◌, ◌≤◌, ℕ, Bool, true, false, cond, List, length, Option, Some, None, Ok, Err, refl, sym, ap, subst, ◌∙◌, leb}
-use Rattle.std.specs.Prelude.{IfSome, option_and_then, ◌&&◌, nat_le}
+use Rattle.std.proofs.Common.{◌≡◌, ◌≤◌, ℕ, Bool, true, false, cond, List, length, Option, Some, None, Ok, Err, refl, ap, subst, leb}
+use Rattle.std.specs.Prelude.{IfSome, option_and_then, ◌&&◌}
 use Rattle.std.proofs.lemmas.Bool.{leb-true, le-leb}
 use Rattle.serde_json.specs.Data.{Data}
 use Rattle.serde_json.specs.Find.{as_str, as_u64, as_number}
