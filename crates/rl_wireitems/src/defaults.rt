@@ -64,3 +64,17 @@ pub fn stamp_of(head: &Head) -> u64
         None => 0,
     }
 }
+
+// The item's own connection id, else the frame's, else the empty text.
+pub fn conn_or(alloc: Global, own: Option<Text>, head: &Head) -> Result<Text, NoMemory>
+    ensures { IfOk result (λ t. t ≡ unwrap_or own (unwrap_or head.now.conn [])) }
+{
+    text_or(alloc, own, or_empty(&head.conn))
+}
+
+// The item's own moment, else the frame's, else 0.
+pub fn stamp_or(own: Option<u64>, head: &Head) -> u64
+    ensures { result ≡ unwrap_or own (unwrap_or head.now.stamp 0) }
+{
+    own.unwrap_or(stamp_of(head))
+}

@@ -5,7 +5,7 @@ ghost use Rattle.rl_jsonfields.specs.Fields.{Gives};
 ghost use Rattle.rl_wireitems.specs.Items.{presence_item, presence_items};
 
 use crate::actions::required_action;
-use crate::defaults::{id_at, or_empty, stamp_of, text_or};
+use crate::defaults::{conn_or, id_at, or_empty, stamp_or, text_or};
 use rl_ids::{List, Moment};
 use rl_jsonfields::{
     Field, check_object, check_text, optional_any_text, optional_number, take_text,
@@ -36,9 +36,9 @@ fn presence_in(
     Ok(PresenceItem {
         action,
         client: text_or(alloc, client, "")?,
-        conn: text_or(alloc, conn, or_empty(&head.conn))?,
+        conn: conn_or(alloc, conn, head)?,
         id: text_or(alloc, id, or_empty(&default))?,
-        stamp: Moment(stamp.unwrap_or(stamp_of(head))),
+        stamp: Moment(stamp_or(stamp, head)),
         payload: take_text(&mut value, Field::Data),
         encoding,
     })

@@ -1,13 +1,15 @@
 // Items are written.
-ghost use Rattle.std.specs.Prelude.{◌≡◌, IfOk};
-ghost use Rattle.serde_json.specs.View.{view, items_view};
+ghost use Rattle.std.specs.Prelude.{◌≡◌, [], IfOk, OnOk, unwrap_or};
+ghost use Rattle.serde_json.specs.View.{view, items_view, members_view};
+ghost use Rattle.rl_jsonfields.specs.Texts.{with_text, with_number, text_unless, number_unless};
+ghost use Rattle.rl_jsonfields.specs.declared.names.Field.TheVariants as fields;
 ghost use Rattle.rl_wireitems.specs.Items.{message_value, message_values, presence_value, presence_values, sync_value, sync_values};
 
 use crate::actions::action_number;
 use crate::defaults::{id_at, or_empty, stamp_of};
-use rl_ids::{List, NoMemory};
+use rl_ids::{List, NoMemory, Text};
 use rl_jsonfields::{
-    Field, set_number, set_number_unless, set_some_text, set_text, set_text_unless,
+    Field, Object, set_number, set_number_unless, set_some_text, set_text, set_text_unless,
 };
 use rl_types::{Head, Item, PresenceItem};
 use serde_json::{Map, Value};
@@ -26,6 +28,44 @@ fn message_value(alloc: Global, item: &Item) -> Result<Value, NoMemory>
     Ok(Value::Object(map))
 }
 
+// Writes the connection id, unless it is the frame's.
+fn set_conn(
+    alloc: Global,
+    map: &mut Object,
+    head: &Head,
+    item: &PresenceItem,
+) -> Result<(), NoMemory>
+    ensures { OnOk result (members_view map.new.entries ≡ with_text fields.ConnectionId (text_unless (unwrap_or head.now.conn []) item.now.conn) (members_view map.old.entries)) }
+{
+    let default = or_empty(&head.conn);
+    set_text_unless(alloc, map, Field::ConnectionId, default, item.conn.as_str())
+}
+
+// Writes the id, unless it is the one that the frame gives at this place.
+fn set_id(
+    alloc: Global,
+    map: &mut Object,
+    default: &Option<Text>,
+    item: &PresenceItem,
+) -> Result<(), NoMemory>
+    ensures { OnOk result (members_view map.new.entries ≡ with_text fields.Id (text_unless (unwrap_or default.now []) item.now.id) (members_view map.old.entries)) }
+{
+    set_text_unless(alloc, map, Field::Id, or_empty(default), item.id.as_str())
+}
+
+// Writes the moment, unless it is the frame's.
+fn set_stamp(
+    alloc: Global,
+    map: &mut Object,
+    head: &Head,
+    item: &PresenceItem,
+) -> Result<(), NoMemory>
+    ensures { OnOk result (members_view map.new.entries ≡ with_number fields.Timestamp (number_unless (unwrap_or head.now.stamp 0) item.now.stamp) (members_view map.old.entries)) }
+{
+    let default = stamp_of(head);
+    set_number_unless(alloc, map, Field::Timestamp, default, item.stamp.0)
+}
+
 #[tactic(auto, unfolding(crate::specs::Items::presence_value))]
 fn presence_value(
     alloc: Global,
@@ -36,26 +76,12 @@ fn presence_value(
     ensures { IfOk result (λ v. view v ≡ presence_value head.now index item.now) }
 {
     let default = id_at(alloc, head, index)?;
-    let conn = or_empty(&head.conn);
-    let stamp = stamp_of(head);
     let mut map = Map::new(alloc);
     set_number(alloc, &mut map, Field::Action, action_number(item.action))?;
     set_text_unless(alloc, &mut map, Field::ClientId, "", item.client.as_str())?;
-    set_text_unless(
-        alloc,
-        &mut map,
-        Field::ConnectionId,
-        conn,
-        item.conn.as_str(),
-    )?;
-    set_text_unless(
-        alloc,
-        &mut map,
-        Field::Id,
-        or_empty(&default),
-        item.id.as_str(),
-    )?;
-    set_number_unless(alloc, &mut map, Field::Timestamp, stamp, item.stamp.0)?;
+    set_conn(alloc, &mut map, head, item)?;
+    set_id(alloc, &mut map, &default, item)?;
+    set_stamp(alloc, &mut map, head, item)?;
     set_some_text(alloc, &mut map, Field::Data, &item.payload)?;
     set_some_text(alloc, &mut map, Field::Encoding, &item.encoding)?;
     Ok(Value::Object(map))
