@@ -10,7 +10,9 @@ use rl_types::{BookReply, Outcome};
 use std::alloc::Global;
 
 const KEPT_OUTCOMES: usize = 1024;
+
 const MAX_SERIAL: u64 = 9_007_199_254_740_991;
+
 const STATE_TTL: u64 = 120_000;
 // the generation at which a connection cannot come back
 const LAST_RESUMED: u64 = u64::MAX - 1;
@@ -73,9 +75,7 @@ impl Record {
         }
         match self.standing {
             Standing::Live => false,
-            Standing::LostSince(since) => {
-                now.0 >= STATE_TTL && since.0 <= now.0 - STATE_TTL
-            }
+            Standing::LostSince(since) => { now.0 >= STATE_TTL && since.0 <= now.0 - STATE_TTL }
             Standing::Closed => true,
         }
     }

@@ -99,6 +99,6 @@ returns-clause-new c =
     let found : record_at number book ≡ Some r = sym c.in-Some.ensures.value in
     let told = resumed_one number key r book.records true here c.self.invariant.keyed c.get_mut.ensures.ordered found (sym c.may_resume.ensures ∙ c.if-not-may_resume.false) in
     rw (← c.self.view_is) (λ now.
-      let made = c.resume.ensures.new key now number (raised r.generation) in
-      let plain : IsPlain (Resume key now) (Resumed number (raised r.generation)) number = record { of = λ n. refl; opens = refl; stays = λ es. refl } in
-      written (Resume key now) (Resumed number (raised r.generation)) number book r c.resume.new.self _ plain told c.get_mut.ensures.ordered found made (c.get_mut.follows.holds c.resume.new.self).0)
+    let made = c.resume.ensures.new key now number (raised r.generation) in
+    let plain : IsPlain (Resume key now) (Resumed number (raised r.generation)) number = record { of = λ n. refl; opens = refl; stays = λ es. refl } in
+    written (Resume key now) (Resumed number (raised r.generation)) number book r c.resume.new.self _ plain told c.get_mut.ensures.ordered found made (c.get_mut.follows.holds c.resume.new.self).0)
