@@ -16,8 +16,34 @@ use std::alloc::Global;
 use std::collections::BTreeMap;
 use std::marker::Model;
 
+// the most connections that stand at a time
 const MAX_RECORDS: usize = 1024;
 
+/// The book of connections (RTN15, RTN16; the book and its limits are this project's own).
+///
+/// It is a [`Machine`], with no setup: what it answers is said by its events alone. A contract sees the book as
+/// how many numbers it gave and the records that stand, in order of number; that it stands for a history says
+/// that these are what the definitions make of the history.
+///
+/// - `Open` gives the next number, from 1, with generation 1 and a key; or `Limit` exactly where 1,024
+///   connections stand or 2^32 - 1 numbers were given.
+/// - `Resume` brings a live or lost connection back under the next generation; or `KeyUnknown` exactly where no
+///   such connection has that key, or its generation is 2^64 - 2.
+/// - `Begin`, `End`, `Lost` and `Close` are `NoRecord` exactly where no connection with that number stands, and
+///   `Superseded` exactly where its generation is greater than theirs.
+/// - `Begin` is `Go` at the expected serial, and above it where it is the first one of its generation, else
+///   `SerialGap`. Below it, it is `Known` where the outcome is among the latest 1,024, else `SerialOld`.
+/// - `End` is one call in flight fewer. It keeps its outcome at a serial not below the expected one and at most
+///   2^53 - 1; one of an earlier generation at exactly the expected serial.
+/// - `Lost` and `Close` change how the connection stands; `Close` also raises its generation.
+/// - `Expire` removes each connection without calls in flight that is closed, or lost for 120 seconds.
+///
+/// `Begin` and `Lost` take no memory and are always answered. After `NoMemory` the book is as before.
+///
+/// With n connections, a record is found by its number in steps of about the logarithm of n. By its key it is
+/// found the same way: a key has the number in its place, and the keys are then compared. Beside that,
+/// `Begin` below the expected serial looks at the outcomes that are kept, at most 1,024, and `End` may move
+/// them. `Expire` looks at each record once, and removes those that are over one by one.
 #[derive(Drop)]
 pub struct ConnBook {
     given: u32,
@@ -46,7 +72,8 @@ fn remove_all(records: &mut BTreeMap<u32, Record>, conns: &[ConnNo])
 }
 
 impl ConnBook {
-    /// A book in which no connection stands, and that gave no number.
+    /// A book in which no connection stands, and that gave no number: it stands for no event. `NoMemory` comes
+    /// where there is no memory.
     pub fn new(alloc: Global) -> Result<ConnBook, NoMemory>
         ensures { IfOk result (λ book. book ≡ book_after []) }
     {
@@ -63,6 +90,7 @@ impl ConnBook {
         self.records.len() >= MAX_RECORDS || self.given == u32::MAX
     }
 
+    // All memory is taken before the first change.
     fn open(&mut self, alloc: Global, word: u64) -> Result<BookReply, NoMemory>
         ensures reply { (now : ℕ) → IfOk result (λ reply. reply ≡ told self.old (BookEvent.Open word now)) }
         ensures new { (now : ℕ) → OnOk result (self.new ≡ after self.old (BookEvent.Open word now)) }
