@@ -116,11 +116,7 @@ pub fn error_object(alloc: Global, channel: &Option<Text>, code: u32) -> Result<
 }
 
 // Writes a channel serial. Where memory ends the object is as before.
-fn set_serial(
-    alloc: Global,
-    object: &mut Object,
-    serial: &ChannelSerial,
-) -> Result<(), NoMemory>
+fn set_serial(alloc: Global, object: &mut Object, serial: &ChannelSerial) -> Result<(), NoMemory>
     ensures ok { OnOk result (members_view object.new.entries ≡ with_text fields.ChannelSerial (Some (serial_text serial.now)) (members_view object.old.entries)) }
     ensures err { OnErr result (object.new.entries ≡ object.old.entries) }
 {
@@ -178,11 +174,7 @@ pub fn detach_object(alloc: Global, channel: &Text) -> Result<Object, NoMemory>
 }
 
 #[tactic(auto, unfolding(crate::specs::Texts::frame_members))]
-pub fn detached_object(
-    alloc: Global,
-    channel: &Text,
-    code: Option<u32>,
-) -> Result<Object, NoMemory>
+pub fn detached_object(alloc: Global, channel: &Text, code: Option<u32>) -> Result<Object, NoMemory>
     ensures { IfOk result (λ m. members_view m.entries ≡ frame_members (frames.Detached channel.now code)) }
 {
     let mut object = channel_object(alloc, 13, channel)?;
@@ -242,11 +234,7 @@ pub fn presence_object(
 }
 
 #[tactic(auto, unfolding(crate::specs::Texts::frame_members))]
-pub fn message_object(
-    alloc: Global,
-    head: &Head,
-    items: &List<Item>,
-) -> Result<Object, NoMemory>
+pub fn message_object(alloc: Global, head: &Head, items: &List<Item>) -> Result<Object, NoMemory>
     ensures { IfOk result (λ m. members_view m.entries ≡ frame_members (frames.Message head.now items.now)) }
 {
     let mut object = head_object(alloc, 15, head)?;

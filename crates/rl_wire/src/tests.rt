@@ -23,9 +23,27 @@ fn is_written(alloc: Global, text: &str) -> Result<bool, NoMemory> {
 fn faults_have_their_fields(rt: HostRuntime) {
     assert!(rt; is_fault(rt.alloc(), "{}", missing(Field::Action)));
     assert!(rt; is_fault(rt.alloc(), "{\"action\":\"0\"}", bad(Field::Action)));
-    assert!(rt; is_fault(rt.alloc(), "{\"action\":12,\"channel\":\"\"}", bad(Field::Channel)));
-    assert!(rt; is_fault(rt.alloc(), "{\"action\":1,\"msgSerial\":0,\"count\":0}", bad(Field::Count)));
-    assert!(rt; is_fault(rt.alloc(), "{\"action\":15,\"channel\":\"room\"}", missing(Field::Messages)));
+    assert!(rt;
+        is_fault(
+            rt.alloc(),
+            "{\"action\":12,\"channel\":\"\"}",
+            bad(Field::Channel)
+        )
+    );
+    assert!(rt;
+        is_fault(
+            rt.alloc(),
+            "{\"action\":1,\"msgSerial\":0,\"count\":0}",
+            bad(Field::Count)
+        )
+    );
+    assert!(rt;
+        is_fault(
+            rt.alloc(),
+            "{\"action\":15,\"channel\":\"room\"}",
+            missing(Field::Messages)
+        )
+    );
     assert!(rt; is_fault(rt.alloc(), "[1]", WireFault::NotObject));
     assert!(rt; is_fault(rt.alloc(), "{", WireFault::NotJson));
 }
@@ -33,8 +51,18 @@ fn faults_have_their_fields(rt: HostRuntime) {
 #[test]
 fn texts_are_written_again(rt: HostRuntime) -> Result<(), NoMemory> {
     assert!(rt; is_written(rt.alloc(), "{\"action\":1,\"count\":1,\"msgSerial\":0}")?);
-    assert!(rt; is_written(rt.alloc(), "{\"action\":10,\"channel\":\"room\",\"channelSerial\":\"abc\"}")?);
-    assert!(rt; is_written(rt.alloc(), "{\"action\":16,\"channel\":\"room\",\"presence\":[]}")?);
+    assert!(rt;
+        is_written(
+            rt.alloc(),
+            "{\"action\":10,\"channel\":\"room\",\"channelSerial\":\"abc\"}"
+        )?
+    );
+    assert!(rt;
+        is_written(
+            rt.alloc(),
+            "{\"action\":16,\"channel\":\"room\",\"presence\":[]}"
+        )?
+    );
     Ok(())
 }
 
