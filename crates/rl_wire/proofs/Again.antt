@@ -1,11 +1,11 @@
 -- What is written of a frame is read as that frame again.
-use Rattle.std.proofs.Common.{◌≡◌, ◌≤◌, ◌<◌, ℕ, true, false, List, [], ◌∷◌, length, pos, Option, Some, None, option_map, Ok, refl, ap, ◌∙◌, ltb, arith}
+use Rattle.std.proofs.Common.{◌≡◌, ◌≤◌, ◌<◌, ℕ, true, false, List, length, pos, Option, Some, None, option_map, Ok, refl, ap, ltb, arith}
 use Rattle.std.specs.Prelude.{IfSome}
 use Rattle.std.specs.Str.{is_utf8}
-use Rattle.serde_json.specs.Data.{Data, string, array, object, Items, Members, no_members, put}
+use Rattle.serde_json.specs.Data.{Data, string, array, object, Members, no_members, put}
 use Rattle.serde_json.specs.Read.{read}
 use Rattle.rl_ids.specs.declared.serials.ChannelSerial.{ChannelSerial}
-use Rattle.rl_ids.specs.Forms.{serial_text, serial_of, IsSerial}
+use Rattle.rl_ids.specs.Forms.{serial_text, IsSerial}
 use Rattle.rl_ids.proofs.SerialTexts.{serial_back}
 use Rattle.rl_types.specs.declared.frames.Cursor.{Cursor}
 use Rattle.rl_types.specs.declared.frames.Frame.{Frame}
@@ -18,12 +18,12 @@ use Rattle.rl_types.specs.declared.presence.PresenceItem.{PresenceItem}
 use Rattle.rl_jsonfields.specs.declared.names.Field.{Field}
 use Rattle.rl_jsonfields.specs.declared.names.Field.TheVariants as fields
 use Rattle.rl_jsonfields.specs.Names.{spelled}
-use Rattle.rl_jsonfields.specs.Fields.{Reads, ◌>>=◌, whole, whole_in, text, text_in, present, an_object, any_items, some_items, not_empty, required, optional}
-use Rattle.rl_jsonfields.specs.Texts.{num, with_some, with_text, with_number}
-use Rattle.rl_jsonfields.proofs.Got.{found, required_found, optional_found, optional_found_one, text_found, required_text_found, required_sized_found, sized_found, required_number_found, number_found, found_rules}
-use Rattle.rl_wireitems.specs.Items.{message_items, presence_items, sync_head, message_values, presence_values, sync_values, AreMessages, ArePresence}
+use Rattle.rl_jsonfields.specs.Fields.{Reads, ◌>>=◌, whole, present, an_object, any_items, some_items, required, optional}
+use Rattle.rl_jsonfields.specs.Texts.{num, with_text}
+use Rattle.rl_jsonfields.proofs.Got.{found, required_found, optional_found_one, text_found, required_text_found, required_sized_found, sized_found, required_number_found, number_found, found_rules}
+use Rattle.rl_wireitems.specs.Items.{sync_head, message_values, presence_values, sync_values, AreMessages, ArePresence}
 use Rattle.rl_wireitems.proofs.Again.{messages_again, presence_again, sync_again, message_values_some, presence_values_some}
-use Rattle.rl_wire.specs.Frames.{max_length, max_serial, max_32, max_64, action_of, channel_serial, given_by, given_of, given_serial, cursor_of, cursor, channel, msg_serial, count, code_in, error_code, head, ack, nack, details, connection_details, connected, disconnected, error, attach, attached, detach, detached, presence, message, sync, by_action, object_frame, frame_at}
+use Rattle.rl_wire.specs.Frames.{max_length, max_serial, max_32, max_64, action_of, channel_serial, given_by, given_of, given_serial, cursor, channel, msg_serial, count, code_in, error_code, head, ack, nack, details, connection_details, connected, disconnected, error, attach, attached, detach, detached, presence, message, sync, by_action, object_frame, frame_at}
 use Rattle.rl_wire.specs.Sendable.{IsName, Fits32, Fits64, IsMsgSerial, IsCount, IsGiven, IsCursor, IsHead, IsSendable}
 use Rattle.rl_wire.specs.Texts.{action, code_name, error_value, with_error, given_text, cursor_text, head_members, details_value, frame_members, frame_value}
 use Rattle.rl_wire.proofs.Cuts.{cursor_again}

@@ -1,5 +1,5 @@
 -- What holds of each frame that is read.
-use Rattle.std.proofs.Common.{◌≡◌, ◌≤◌, ◌<◌, ◌+◌, ℕ, Bool, List, [], ◌∷◌, length, Option, Some, None, option_map, Ok, refl, ap, subst, ◌∙◌, ltb, arith}
+use Rattle.std.proofs.Common.{◌≡◌, ◌≤◌, ℕ, List, length, Option, Some, None, option_map, Ok, refl, subst, ltb, arith}
 use Rattle.std.specs.Prelude.{IfSome, option_and_then, not, unwrap_or}
 use Rattle.std.specs.Str.{is_utf8}
 use Rattle.serde_json.specs.Data.{Data, Items, no_items, item}
@@ -14,13 +14,11 @@ use Rattle.rl_types.specs.declared.frames.Frame.{Frame}
 use Rattle.rl_types.specs.declared.frames.Frame.TheVariants as frames
 use Rattle.rl_types.specs.declared.frames.Head.{Head}
 use Rattle.rl_types.specs.declared.messages.Given.{Given}
-use Rattle.rl_types.specs.declared.messages.Item.{Item}
-use Rattle.rl_types.specs.declared.presence.PresenceItem.{PresenceItem}
 use Rattle.rl_jsonfields.specs.declared.names.Field.{Field}
 use Rattle.rl_jsonfields.specs.declared.names.Field.TheVariants as fields
-use Rattle.rl_jsonfields.specs.Fields.{Reads, ◌>>=◌, whole, whole_in, text, text_in, an_object, any_items, not_empty, some_items, required, optional, each_at}
+use Rattle.rl_jsonfields.specs.Fields.{Reads, ◌>>=◌, whole, whole_in, text, text_in, an_object, any_items, not_empty, some_items, required, optional}
 use Rattle.rl_jsonfields.proofs.Shapes.{bind_ok, done, ok_is, guard_ok, some_is, required_ok, optional_ok, required_number, optional_number, required_text, optional_text}
-use Rattle.rl_wireitems.specs.Items.{message_items, presence_items, sync_head, AreMessages, ArePresence}
+use Rattle.rl_wireitems.specs.Items.{message_items, presence_items, sync_head}
 use Rattle.rl_wireitems.proofs.Fits.{messages_fit, presence_fits, message_full, presence_full}
 use Rattle.rl_wire.specs.declared.actions.Action.{Action}
 use Rattle.rl_wire.specs.declared.actions.Action.TheVariants as actions

@@ -1,7 +1,6 @@
 -- The value of a frame has no float, and nests little.
-use Rattle.std.proofs.Common.{option_map, ◌≡◌, ℕ, ◌≤◌, ◌+◌, List, false, Option, Some, None, arith}
-use Rattle.serde_json.specs.Data.{Data, string, array, object, Items, Members, put, depth}
-use Rattle.serde_json.specs.Written.{has_float}
+use Rattle.std.proofs.Common.{option_map, ℕ, List, Option, Some, None, arith}
+use Rattle.serde_json.specs.Data.{string, array, Members, put}
 use Rattle.rl_ids.specs.Forms.{serial_text}
 use Rattle.rl_types.specs.declared.frames.Frame.{Frame}
 use Rattle.rl_types.specs.declared.frames.Frame.TheVariants as frames

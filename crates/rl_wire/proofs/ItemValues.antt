@@ -1,8 +1,8 @@
 -- The numbers of written items are whole and fit, and the members of their values stand in order.
-use Rattle.std.proofs.Common.{ℕ, ◌+◌, ◌<◌, List, [], ◌∷◌, map, Option, Some, None, arith}
+use Rattle.std.proofs.Common.{ℕ, ◌+◌, ◌<◌, List, [], ◌∷◌, map, Option, Some, arith}
 use Rattle.std.specs.Prelude.{IfSome, ◌^◌, unwrap_or}
 use Rattle.std.proofs.lemmas.List.Elements.{All-head, All-tail}
-use Rattle.serde_json.specs.Data.{Data, Items, no_members}
+use Rattle.serde_json.specs.Data.{no_members}
 use Rattle.serde_json.specs.View.{items_of}
 use Rattle.rl_types.specs.declared.frames.Head.{Head}
 use Rattle.rl_types.specs.declared.messages.Item.{Item}
@@ -10,7 +10,7 @@ use Rattle.rl_types.specs.declared.presence.PresenceAction.{PresenceAction}
 use Rattle.rl_types.specs.declared.presence.PresenceAction.TheVariants as actions
 use Rattle.rl_types.specs.declared.presence.PresenceItem.{PresenceItem}
 use Rattle.rl_jsonfields.specs.declared.names.Field.TheVariants as fields
-use Rattle.rl_jsonfields.proofs.Compact.{Plain, PlainItems, Orderly, nothing_orderly, number_orderly, with_text_orderly, with_number_orderly}
+use Rattle.rl_jsonfields.proofs.Compact.{Plain, PlainItems, nothing_orderly, number_orderly, with_text_orderly, with_number_orderly}
 use Rattle.rl_jsonfields.proofs.Got.{number_unless_has}
 use Rattle.rl_wireitems.specs.Items.{message_value, message_values, number_of, presence_with, presence_value, presence_values, sync_value, sync_values, values_at, ArePresence}
 

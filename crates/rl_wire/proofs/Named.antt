@@ -1,14 +1,14 @@
 -- No bytes are read as want of memory.
-use Rattle.std.proofs.Common.{◌≡◌, ℕ, Bool, List, length, Option, Some, None, Ok, Err, ltb}
+use Rattle.std.proofs.Common.{◌≡◌, ℕ, List, length, Option, Some, None, Err, ltb}
 use Rattle.std.specs.Prelude.{not, unwrap_or}
 use Rattle.std.specs.Str.{is_utf8}
 use Rattle.serde_json.specs.Data.{Data, no_items}
 use Rattle.serde_json.specs.Read.{read}
 use Rattle.rl_types.specs.declared.frames.WireFault.TheVariants.{NoMemory}
 use Rattle.rl_jsonfields.specs.declared.names.Field.TheVariants as fields
-use Rattle.rl_jsonfields.specs.Fields.{Reads, ◌>>=◌, whole, whole_in, text, text_in, an_object, any_items, some_items, required, optional}
+use Rattle.rl_jsonfields.specs.Fields.{whole, whole_in, text, text_in, an_object, any_items, some_items}
 use Rattle.rl_jsonfields.proofs.Named.{Named, then_named, required_named as req, optional_named as opt, choice_named, not_memory}
-use Rattle.rl_wireitems.specs.Items.{message_items, presence_items, sync_head}
+use Rattle.rl_wireitems.specs.Items.{sync_head}
 use Rattle.rl_wireitems.proofs.Named.{message_items_named, presence_items_named}
 use Rattle.rl_wire.specs.declared.actions.Action.{Action}
 use Rattle.rl_wire.specs.declared.actions.Action.TheVariants as actions

@@ -1,7 +1,7 @@
 -- The numbers of a frame that can be sent are whole and fit, and the members of its value stand in order.
-use Rattle.std.proofs.Common.{option_map, ◌≡◌, ℕ, ◌<◌, ◌≤◌, List, Option, Some, None, arith}
+use Rattle.std.proofs.Common.{option_map, ℕ, ◌<◌, List, Option, Some, None, arith}
 use Rattle.std.specs.Prelude.{IfSome, ◌^◌}
-use Rattle.serde_json.specs.Data.{Data, string, array, object, Members, put}
+use Rattle.serde_json.specs.Data.{string, array, Members, put}
 use Rattle.rl_ids.specs.Forms.{serial_text}
 use Rattle.rl_types.specs.declared.frames.Frame.{Frame}
 use Rattle.rl_types.specs.declared.frames.Frame.TheVariants as frames
@@ -11,7 +11,6 @@ use Rattle.rl_jsonfields.specs.Names.{spelled}
 use Rattle.rl_jsonfields.proofs.Compact.{Plain, Orderly, nothing_orderly, put_orderly, number_orderly, string_orderly, with_text_orderly, with_number_orderly}
 use Rattle.rl_wireitems.specs.Items.{message_values, presence_values, sync_values}
 use Rattle.rl_wire.proofs.ItemValues.{message_values_plain, presence_values_plain, sync_values_plain}
-use Rattle.rl_wire.specs.Frames.{max_serial}
 use Rattle.rl_wire.specs.Sendable.{Fits32, Fits64, IsMsgSerial, IsHead, IsSendable}
 use Rattle.rl_wire.specs.Texts.{action, code_name, error_value, with_error, given_text, cursor_text, head_members, details_value, frame_members, frame_value}
 

@@ -1,8 +1,8 @@
 -- How long the text of a frame can be.
-use Rattle.std.proofs.Common.{◌≡◌, ◌≤◌, ◌<◌, ◌+◌, ◌*◌, ◌==◌, ℕ, Bool, true, false, cond, List, [], ◌∷◌, ◌++◌, length, map, codes, Option, Some, None, option_map, refl, arith, length-append}
+use Rattle.std.proofs.Common.{◌≡◌, ◌≤◌, ◌+◌, ◌*◌, ◌==◌, ℕ, Bool, true, false, cond, List, [], ◌∷◌, length, map, codes, Option, Some, None, option_map, refl, arith, length-append}
 use Rattle.std.specs.Prelude.{unwrap_or, sum_by}
 use Rattle.std.proofs.lemmas.List.Sums.{sum_by-cons}
-use Rattle.serde_json.specs.Data.{Data, string, array, object, Items, Members, no_members, put}
+use Rattle.serde_json.specs.Data.{string, array, Members, no_members, put}
 use Rattle.serde_json.specs.View.{items_of}
 use Rattle.rl_ids.specs.declared.serials.ChannelSerial.{ChannelSerial}
 use Rattle.rl_ids.specs.Forms.{serial_text, epoch_text}

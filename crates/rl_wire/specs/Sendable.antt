@@ -1,6 +1,6 @@
 -- Which frames can be sent: what holds of each frame that bytes are, and all that it takes for a frame's text to
 -- be read as it again.
-use Rattle.std.specs.Prelude.{◌≡◌, ℕ, ◌≤◌, ◌<◌, ◌^◌, ⊤, List, length, not, Option, None, IfSome, IsTrue}
+use Rattle.std.specs.Prelude.{◌≡◌, ℕ, ◌≤◌, ◌<◌, ◌^◌, ⊤, List, length, not, None, IfSome, IsTrue}
 use Rattle.std.specs.List.{list_all}
 use Rattle.rl_ids.specs.Forms.{serial_of, IsSerial}
 use Rattle.rl_types.specs.declared.frames.Cursor.{Cursor}

@@ -1,5 +1,5 @@
 -- The JSON value of a frame, and its text.
-use Rattle.std.specs.Prelude.{ℕ, ◌==◌, List, ◌∷◌, ◌++◌, codes, Option, Some, None, option_map, if◌then◌else◌}
+use Rattle.std.specs.Prelude.{ℕ, ◌==◌, List, ◌∷◌, ◌++◌, codes, Option, option_map, if◌then◌else◌}
 use Rattle.serde_json.specs.Data.{Data, string, array, object, Members, no_members}
 use Rattle.serde_json.specs.Written.{compact_text}
 use Rattle.rl_ids.specs.Forms.{serial_text}
