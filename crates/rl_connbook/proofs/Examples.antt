@@ -1,7 +1,5 @@
 -- The examples are computed.
 use Rattle.std.proofs.Common.{refl}
-use Rattle.std.specs.Str.{is_utf8, chars}
-use lib.Utf8.{encode}
 use Rattle.rl_connbook.specs.Examples.{Replies}
 
 pub replies_hold : Replies

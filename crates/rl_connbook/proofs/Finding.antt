@@ -1,10 +1,10 @@
 -- A record found by the number in its key, and a new one behind the others.
-use Rattle.std.proofs.Common.{◌≡◌, ◌≢◌, ℕ, zero, suc, ◌+◌, ◌*◌, ◌/◌, ◌%◌, ◌^◌, ◌<◌, ◌≤◌, Bool, true, false, cond, List, [], ◌∷◌, ◌++◌, length, take, drop, map, refl, ap, sym, subst, ◌∙◌, arith, append_assoc, add-one}
-use Rattle.std.specs.Prelude.{not, ◌==◌, ◌&&◌, ◌-◌, nat_lt, Option, Some, None, if◌then◌else◌, find, bytes_eq, fold, IsTrue}
+use Rattle.std.proofs.Common.{◌≡◌, ℕ, zero, suc, ◌+◌, ◌*◌, ◌/◌, ◌%◌, ◌^◌, ◌<◌, ◌≤◌, Bool, true, false, cond, List, [], ◌∷◌, ◌++◌, length, take, map, refl, ap, sym, subst, ◌∙◌, arith, append_assoc}
+use Rattle.std.specs.Prelude.{◌&&◌, Option, Some, None, if◌then◌else◌, find, bytes_eq}
 use Rattle.std.specs.List.{AllByRecursion, filter}
 use Rattle.std.specs.List.Sorted.{IsStrictlySortedBy}
 use Rattle.std.specs.Ordering.{nat_cmp}
-use Rattle.std.specs.declared.cmp.Ordering.TheVariants.{Less, Equal, Greater}
+use Rattle.std.specs.declared.cmp.Ordering.TheVariants.{Less, Greater}
 use Rattle.std.specs.Map.{lookup, keys_of}
 use Rattle.std.specs.BTreeMap.{is_at, insert_entry}
 use Rattle.std.specs.Cmp.Lexicographic.{bytes_decides}
@@ -15,12 +15,10 @@ use Rattle.std.proofs.lemmas.Nat.{div-add-mod', row_below_turned}
 use Rattle.std.proofs.Math.Nat.{mod-lt, mod-eq_of_lt, pow-suc, pow-zero}
 use Rattle.rl_base.specs.Digits.{fixed_text, digit_glyph}
 use Rattle.rl_base.proofs.Digits.{fixed_lengths}
-use Rattle.rl_ids.specs.Forms.{conn_text}
-use Rattle.rl_types.specs.declared.book.BookReply.{BookReply}
 use Rattle.rl_types.specs.declared.book.BookReply.TheVariants.{Resumed, KeyUnknown}
 use Rattle.rl_connbook.specs.declared.record.Record.{Record}
 use Rattle.rl_connbook.specs.Records.{is_open, raised}
-use Rattle.rl_connbook.specs.Book.{Book, has_key, may_resume, resumed, is_over, key_text}
+use Rattle.rl_connbook.specs.Book.{has_key, may_resume, resumed, is_over, key_text}
 use Rattle.rl_connbook.specs.Sound.{IsSound, number_in, digits_value, digit_value, digit_step}
 
 -- BY KEY

@@ -1,6 +1,6 @@
 -- What one more event makes of the book after a history.
-use Rattle.std.proofs.Common.{◌≡◌, ℕ, ◌+◌, ◌≤◌, Bool, true, false, cond, List, [], ◌∷◌, ◌++◌, length, reverse, map, refl, ap, sym, ◌∙◌, arith}
-use Rattle.std.specs.Prelude.{not, ◌==◌, ◌-◌, ◌^◌, nat_le, if◌then◌else◌}
+use Rattle.std.proofs.Common.{◌≡◌, ℕ, ◌+◌, ◌≤◌, Bool, true, false, cond, List, [], ◌∷◌, ◌++◌, length, reverse, map, refl, ap, ◌∙◌, arith}
+use Rattle.std.specs.Prelude.{not, ◌==◌, if◌then◌else◌}
 use Rattle.std.specs.List.{AllByRecursion, filter}
 use Rattle.std.proofs.lemmas.List.{reverse-append}
 use Rattle.std.proofs.lemmas.Bool.Decides.{nat_tests}
@@ -9,8 +9,8 @@ use Rattle.rl_types.specs.declared.book.BookEvent.TheVariants.{Open, Resume, Beg
 use Rattle.rl_types.specs.declared.book.BookReply.{BookReply}
 use Rattle.rl_types.specs.declared.book.BookReply.TheVariants.{Opened, Limit, Resumed, KeyUnknown, Go, Known, SerialGap, SerialOld, Superseded, NoRecord, Done, Expired}
 use Rattle.rl_connbook.specs.declared.record.Record.{Record}
-use Rattle.rl_connbook.specs.Records.{Answered, concerns, is_of, story, record_of, record_of_story}
-use Rattle.rl_connbook.specs.Book.{Book, book_of, numbers, numbers_after, numbers_given, is_opened, is_over, told, opened, answered, decided, book_after, key_text, is_full}
+use Rattle.rl_connbook.specs.Records.{Answered, concerns, story, record_of, record_of_story}
+use Rattle.rl_connbook.specs.Book.{Book, book_of, numbers, numbers_after, numbers_given, is_opened, is_over, told, answered, decided, book_after, key_text, is_full}
 use Rattle.rl_connbook.specs.Steps.{after, record_after, entry_after, records_after, new_record}
 
 -- ONE RECORD

@@ -3,13 +3,12 @@ use Rattle.std.proofs.Common.{◌≡◌, ℕ, ◌+◌, ◌^◌, ◌<◌, Bool, t
 use Rattle.std.specs.Prelude.{Option, Some, None, if◌then◌else◌, not}
 use Rattle.std.specs.List.{AllByRecursion, filter}
 use Rattle.std.proofs.lemmas.Bool.Decides.{nat_tests}
-use Rattle.rl_types.specs.declared.book.BookEvent.{BookEvent}
 use Rattle.rl_types.specs.declared.book.BookEvent.TheVariants.{Open, End, Expire}
 use Rattle.rl_types.specs.declared.book.BookReply.{BookReply}
 use Rattle.rl_types.specs.declared.book.BookReply.TheVariants.{Opened, Limit, NoRecord}
 use Rattle.rl_types.specs.declared.channel.Outcome.{Outcome}
 use Rattle.rl_connbook.specs.declared.record.Record.{Record}
-use Rattle.rl_connbook.specs.Book.{Book, is_full, opened, told, is_opened, is_over, key_text}
+use Rattle.rl_connbook.specs.Book.{Book, is_full, opened, is_opened, is_over, key_text}
 use Rattle.rl_connbook.specs.Sound.{IsSound, number_in}
 use Rattle.rl_connbook.specs.Steps.{after, record_after, records_after, new_record}
 use Rattle.rl_connbook.proofs.Changes.{untouched}

@@ -1,5 +1,5 @@
 -- What holds of every book.
-use Rattle.std.specs.Prelude.{◌≡◌, ℕ, ◌+◌, ◌*◌, ◌-◌, ◌%◌, ◌^◌, ◌≤◌, List, [], ◌∷◌, nat_lt, if◌then◌else◌, take, drop, fold}
+use Rattle.std.specs.Prelude.{◌≡◌, ℕ, ◌+◌, ◌*◌, ◌-◌, ◌%◌, ◌^◌, ◌≤◌, List, nat_lt, if◌then◌else◌, take, drop, fold}
 use Rattle.std.specs.List.{AllByRecursion}
 use Rattle.rl_connbook.specs.declared.record.Record.{Record}
 

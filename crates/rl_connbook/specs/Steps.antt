@@ -1,5 +1,5 @@
 -- What one event makes of a book, by the book alone.
-use Rattle.std.specs.Prelude.{ℕ, ◌+◌, Bool, false, not, cond, if◌then◌else◌, List, [], ◌∷◌, ◌++◌, map, fold}
+use Rattle.std.specs.Prelude.{ℕ, ◌+◌, false, not, if◌then◌else◌, List, [], ◌∷◌, ◌++◌, map, fold}
 use Rattle.std.specs.Map.{remove_entry}
 use Rattle.std.specs.BTreeMap.{is_at}
 use Rattle.std.specs.Ordering.{nat_cmp}

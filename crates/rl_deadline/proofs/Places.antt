@@ -1,10 +1,10 @@
 -- A place among deadlines that are in order.
-use Rattle.std.proofs.Common.{◌≡◌, ℕ, zero, suc, ◌+◌, ◌<◌, ◌≤◌, Bool, true, false, cond, List, [], ◌∷◌, ◌++◌, length, take, drop, refl, ap, sym, subst, ◌∙◌, arith, get_or}
-use Rattle.std.specs.Prelude.{insert, remove, nat_lt, map}
-use Rattle.std.specs.List.{AllByRecursion, AllWithin, filter}
-use Rattle.std.specs.List.Sorted.{IsPartitionedBy, IsPartitionPoint}
+use Rattle.std.proofs.Common.{◌≡◌, ℕ, zero, suc, ◌<◌, Bool, true, false, cond, List, [], ◌∷◌, length, take, refl, ap, sym, subst, ◌∙◌, arith, get_or}
+use Rattle.std.specs.Prelude.{insert, remove}
+use Rattle.std.specs.List.{AllByRecursion, filter}
+use Rattle.std.specs.List.Sorted.{IsPartitionedBy}
 use Rattle.std.proofs.lemmas.Bool.Decides.{nat_tests}
-use Rattle.rl_deadline.specs.Order.{is_before, put, in_order, is_due}
+use Rattle.rl_deadline.specs.Order.{is_before, put, is_due}
 use Rattle.rl_deadline.specs.Ranked.{AreRanked, IsRanked, IsPlaceOf}
 use Rattle.rl_deadline.proofs.Putting.{before_self, before_both, is_ranked_put}
 

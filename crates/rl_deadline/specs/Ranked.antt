@@ -1,5 +1,5 @@
 -- Deadlines that are in order, and a place among them.
-use Rattle.std.specs.Prelude.{◌≡◌, ℕ, ◌≤◌, ◌<◌, Bool, true, false, List, [], ◌∷◌, length, ⊤}
+use Rattle.std.specs.Prelude.{◌≡◌, ℕ, ◌≤◌, true, false, List, [], ◌∷◌, length, ⊤}
 use Rattle.std.specs.List.{AllByRecursion, AllWithin}
 use Rattle.rl_deadline.specs.Order.{is_before}
 

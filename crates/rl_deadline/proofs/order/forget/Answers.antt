@@ -1,5 +1,5 @@
-use Rattle.std.proofs.Common.{rules, arith, sym, ap, ◌∙◌, ◌≡◌, Some, None}
-use Rattle.rl_deadline.specs.Order.{put, in_order}
+use Rattle.std.proofs.Common.{sym, ap, ◌∙◌}
+use Rattle.rl_deadline.specs.Order.{in_order}
 use Rattle.std.specs.Map.{remove_entry}
 use Rattle.std.specs.BTreeMap.{is_at}
 use Rattle.std.specs.Ordering.{nat_cmp}

@@ -1,6 +1,5 @@
-use Rattle.std.proofs.Common.{rules, arith, ◌≡◌, ◌<◌, ◌≤◌, List, ℕ, length, OnOk, OnErr, IsOk, vec_len, vec_capacity, ◌+◌, ◌-◌, ◌*◌, ◌/◌, ◌%◌, Bool, true, false, nat_eq, nat_lt, [], ◌∷◌, ◌++◌, slice_index_or, slice_set, bit_and, bit_or, Fits, w8, w32, w64, Bor, MutBor}
-use Rattle.rl_deadline.specs.Order.{put, is_before}
-use Rattle.rl_deadline.specs.Ranked.{IsRanked, IsPlaceOf}
+use Rattle.std.proofs.Common.{rules, arith}
+use Rattle.rl_deadline.specs.Order.{is_before}
 use Rattle.std.proofs.lemmas.Fn.{always_returns_same}
 use Rattle.rl_deadline.proofs.Places.{is_parted}
 use Rattle.rl_deadline.proofs.order.place_of.Goals as goal

@@ -1,13 +1,11 @@
-use Rattle.std.proofs.Common.{rules, arith, ◌≡◌, ℕ, refl, ap, sym, ◌∙◌, List}
+use Rattle.std.proofs.Common.{◌≡◌, refl, ap, sym, ◌∙◌}
 use Rattle.std.specs.Prelude.{Some, None}
 use Rattle.rl_types.specs.declared.book.BookEvent.{BookEvent}
-use Rattle.rl_types.specs.declared.book.BookEvent.TheVariants.{Open, Resume, Begin, End, Lost, Close, Expire}
+use Rattle.rl_types.specs.declared.book.BookEvent.TheVariants.{Begin}
 use Rattle.rl_types.specs.declared.book.BookReply.{BookReply}
-use Rattle.rl_types.specs.declared.book.BookReply.TheVariants.{Opened, Limit, Resumed, KeyUnknown, Go, Known, SerialGap, SerialOld, Superseded, NoRecord, Done, Expired}
-use Rattle.rl_connbook.specs.declared.record.Record.{Record}
-use Rattle.rl_connbook.specs.Records.{is_of}
+use Rattle.rl_types.specs.declared.book.BookReply.TheVariants.{Superseded, NoRecord}
 use Rattle.rl_connbook.specs.Book.{Book, begun, record_at}
-use Rattle.rl_connbook.specs.Steps.{after, record_after, entry_after, records_after}
+use Rattle.rl_connbook.specs.Steps.{record_after}
 use Rattle.rl_connbook.proofs.Changes.{IsPlain, written, unchanged, sound_after, at_none, at_late, at_now, begun_opens}
 use Rattle.rl_connbook.proofs.book.ConnBook.begin.Goals as goal
 

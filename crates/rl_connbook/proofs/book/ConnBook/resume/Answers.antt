@@ -1,17 +1,13 @@
-use Rattle.std.proofs.Common.{rules, arith, ◌≡◌, ℕ, ◌+◌, ◌++◌, Bool, true, false, refl, ap, sym, subst, ◌∙◌, List, [], ◌∷◌}
-use Rattle.std.specs.Prelude.{Some, None, map, ◌&&◌}
-use Rattle.std.specs.List.{filter}
-use Rattle.rl_types.specs.declared.book.BookEvent.{BookEvent}
-use Rattle.rl_types.specs.declared.book.BookEvent.TheVariants.{Open, Resume, Begin, End, Lost, Close, Expire}
-use Rattle.rl_types.specs.declared.book.BookReply.{BookReply}
-use Rattle.rl_types.specs.declared.book.BookReply.TheVariants.{Opened, Limit, Resumed, KeyUnknown, Go, Known, SerialGap, SerialOld, Superseded, NoRecord, Done, Expired}
+use Rattle.std.proofs.Common.{◌≡◌, ℕ, true, false, refl, ap, sym, subst, ◌∙◌, List}
+use Rattle.std.specs.Prelude.{Some, None}
+use Rattle.rl_types.specs.declared.book.BookEvent.TheVariants.{Resume}
+use Rattle.rl_types.specs.declared.book.BookReply.TheVariants.{Resumed, KeyUnknown}
 use Rattle.rl_connbook.specs.declared.record.Record.{Record}
-use Rattle.rl_connbook.specs.Records.{is_of, raised}
+use Rattle.rl_connbook.specs.Records.{raised}
 use Rattle.rl_connbook.specs.Sound.{IsSound, number_in}
-use Rattle.rl_connbook.specs.Book.{Book, begun, record_at, is_over, is_full, opened, resumed, has_key, may_resume}
-use Rattle.rl_connbook.specs.Steps.{after, record_after, entry_after, records_after, new_record}
-use Rattle.rl_connbook.proofs.Changes.{IsPlain, written, unchanged, untouched, same_back, sound_after, at_none, at_late, at_now, begun_opens}
-use Rattle.rl_connbook.proofs.Finding.{resumed_none, resumed_one, inserted_last, sound_more, numbers_over, over_taken, over_passed}
+use Rattle.rl_connbook.specs.Book.{Book, record_at}
+use Rattle.rl_connbook.proofs.Changes.{IsPlain, written, untouched, same_back, sound_after}
+use Rattle.rl_connbook.proofs.Finding.{resumed_none, resumed_one}
 use Rattle.rl_connbook.proofs.book.ConnBook.resume.Goals as goal
 
 pub returns-in_default-clause-reply : goal.returns-in_default-clause-reply

@@ -1,4 +1,4 @@
-use Rattle.std.proofs.Common.{rules, arith, sym, ap, ◌∙◌, ◌≡◌, take, get_or, ℕ, ◌<◌}
+use Rattle.std.proofs.Common.{rules, sym, ap, ◌∙◌, ◌≡◌, get_or, ℕ, ◌<◌}
 use Rattle.std.specs.Prelude.{map}
 use Rattle.std.specs.List.{filter}
 use Rattle.rl_deadline.specs.Order.{is_due, in_order}

@@ -1,5 +1,5 @@
 use Rattle.std.proofs.Common.{◌≡◌, take}
-use Rattle.rl_deadline.specs.Order.{is_due, in_order}
+use Rattle.rl_deadline.specs.Order.{is_due}
 use Rattle.std.specs.List.{filter}
 use Rattle.std.specs.Prelude.{map}
 use Rattle.rl_deadline.proofs.deadlines.Deadlines.due.Given as goal

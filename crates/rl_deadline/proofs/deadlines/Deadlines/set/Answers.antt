@@ -1,11 +1,11 @@
-use Rattle.std.proofs.Common.{rules, arith, sym, ap, ◌∙◌, ◌≡◌, Some, None}
+use Rattle.std.proofs.Common.{rules, sym, ap, ◌∙◌, ◌≡◌}
 use Rattle.rl_deadline.specs.Order.{put, in_order}
 use Rattle.std.specs.Map.{lookup, remove_entry}
 use Rattle.std.specs.BTreeMap.{is_at}
 use Rattle.std.specs.Ordering.{nat_cmp}
 use Rattle.rl_deadline.specs.Ranked.{IsRanked}
 use Rattle.std.specs.Prelude.{is_err, true, false}
-use Rattle.rl_deadline.proofs.Putting.{is_ranked, known_put, unknown_stays, inserted_put, kept_all, ok_of, err_of, not_ok}
+use Rattle.rl_deadline.proofs.Putting.{is_ranked, unknown_stays, inserted_put, kept_all, ok_of, err_of, not_ok}
 use Rattle.rl_deadline.proofs.deadlines.Deadlines.set.Goals as goal
 
 pub invariant_of-self : goal.invariant_of-self
