@@ -1,5 +1,5 @@
-use crate::{Body, Entry, Given};
-use rl_ids::{ChannelSerial, ConnNo, Copied, List, Moment, NoMemory, Place};
+use crate::{Body, Entry, Given, PresenceItem};
+use rl_ids::{ChannelSerial, ConnNo, Copied, List, MemberKey, Moment, NoMemory, Place};
 use std::alloc::Global;
 
 /// How a put ended.
@@ -38,6 +38,11 @@ pub enum ChannelEvent {
         from: Place,
         max: usize,
     },
+    /// The members past a key, in order of key, at most `max` of them (RTP18).
+    MemberPage {
+        after: Option<MemberKey>,
+        max: usize,
+    },
     /// A connection is gone for good (RTN15g).
     Gone {
         conn: ConnNo,
@@ -72,6 +77,12 @@ pub enum ChannelReply {
         objects: bool,
     },
     Read(ReadReply),
+    /// The members of a page, each as PRESENT; whether none remain after them; the place of the last entry.
+    Members {
+        items: List<PresenceItem>,
+        last: bool,
+        head: Place,
+    },
     /// The place of the entry that tells of the members that left, where there is one.
     Gone(Option<Place>),
     Ticked,
@@ -116,6 +127,10 @@ impl Copied for ChannelEvent {
                 from: *from,
                 max: *max,
             }),
+            ChannelEvent::MemberPage { after, max } => Ok(ChannelEvent::MemberPage {
+                after: after.copy(alloc)?,
+                max: *max,
+            }),
             ChannelEvent::Gone { conn, now } => Ok(ChannelEvent::Gone {
                 conn: *conn,
                 now: *now,
@@ -151,6 +166,11 @@ impl Copied for ChannelReply {
                 objects: *objects,
             }),
             ChannelReply::Read(reply) => Ok(ChannelReply::Read(reply.copy(alloc)?)),
+            ChannelReply::Members { items, last, head } => Ok(ChannelReply::Members {
+                items: items.copy(alloc)?,
+                last: *last,
+                head: *head,
+            }),
             ChannelReply::Gone(place) => Ok(ChannelReply::Gone(*place)),
             ChannelReply::Ticked => Ok(ChannelReply::Ticked),
             ChannelReply::Census {

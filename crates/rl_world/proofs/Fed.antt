@@ -52,7 +52,7 @@ changed_fed : (change : Client → Client) (world : World) (client : Option Clie
 changed_fed change world None = refl
 changed_fed change world (Some client) = refl
 
-line_fed : (world : World) (line : Line) → (after_line world line).fed ≡ world.fed + fed_by line
+pub line_fed : (world : World) (line : Line) → (after_line world line).fed ≡ world.fed + fed_by line
 line_fed world (lines.Client name) = omega arith
 line_fed world (lines.Open name) = changed_fed (λ (client : Client). record client { conn = opened client.conn }) world world.client ∙ (omega arith)
 line_fed world (lines.Cut name) = changed_fed (λ (client : Client). record client { conn = dropped client.conn }) world world.client ∙ (omega arith)
@@ -70,17 +70,3 @@ lines_fed (line ∷ script) world =
 -- the entries fed are those that the lines feed
 pub final_fed : (script : List Line) → (final script).fed ≡ fed script
 final_fed script = lines_fed script empty_world ∙ (omega arith)
-
--- one line more of a script
-pub run_step : (script : List Line) (at : ℕ) (line : Line) (old new : WorldState) → at < length script → line ≡ get_or script at line
-    → fed script < 2 ^ 64 → old ≡ shown (final (take at script))
-    → ((world : World) → old ≡ shown world → MayFollow world line → new ≡ shown (after_line world line))
-    → new ≡ shown (final (take (at + 1) script))
-run_step script at line old new within is fits before step =
-    let front : List Line = take at script in
-    let little : sum_by fed_by front + fed_by (get_or script at line) ≤ fed script = sum_by_more_le fed_by script at line within in
-    let own : fed_by line ≡ fed_by (get_or script at line) = ap fed_by is in
-    let so_far : (final front).fed ≡ fed front = final_fed front in
-    let more : final (take (at + 1) script) ≡ after_line (final front) (get_or script at line) = fold_more after_line empty_world script at line within in
-    step (final front) before (record { sound = sound_records front; countable = omega (arith, little, own, so_far, fits) })
-    ∙ ap (λ l. shown (after_line (final front) l)) is ∙ ap shown (sym more)

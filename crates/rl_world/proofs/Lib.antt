@@ -2,3 +2,6 @@ pub mod Fed
 pub mod Places
 pub mod Shown
 pub mod Worlds
+pub mod Small
+pub mod Follows
+pub mod Carried

@@ -9,11 +9,15 @@ use Rattle.rl_types.specs.declared.states.ConnState.TheVariants as conn
 use Rattle.rl_model.specs.declared.plain.Client.{Client}
 use Rattle.rl_model.specs.declared.plain.Sent.{Sent}
 use Rattle.rl_model.specs.Client.{connected}
-use Rattle.rl_model.specs.Records.{the_epoch}
+use Rattle.rl_model.specs.Records.{the_epoch, got_in}
 use Rattle.rl_model.specs.World.{World, feed, feed_conn, with_client, serve_next, finish, serve_all, settle, settle_in, named, one_message}
 use Rattle.rl_plainchannel.specs.State.{ChannelState, state_of, StandsFor}
 use Rattle.rl_world.specs.State.{WorldState, shown}
 use Rattle.rl_world.specs.Ready.{IsReadyFrom, MakesReady, TakesSent}
+use Rattle.rl_model.specs.Limits.{IsChannelName}
+use Rattle.rl_model.specs.Verdict.{log}
+use Rattle.rl_world.specs.Travels.{AllTravel, IsSmallWorld, IsSmallClient, HasSmallName, AreSmallEntries}
+use Rattle.rl_world.proofs.Small.{all_travel, all_served_small, small_taken, IsReadyClient, HasReadyClient}
 
 -- one message more is fed behind the others
 pub feed_more : (count : ℕ) (body : Body) (serial : ℕ) (past : List ChannelEvent)
@@ -26,31 +30,35 @@ feed_more (suc count) body serial past =
     ∙ feed_more count body (suc serial) (Put feed_conn serial body 0 ∷ past)
     ∙ ap (λ k. Put feed_conn k body 0 ∷ feed count body (suc serial) (Put feed_conn serial body 0 ∷ past)) n
 
--- the four steps of a settle: the client is made ready, what it has sent is taken and served, and it gets what is there
-module _ (world : World) (ready taken served done : WorldState) (sent : List Sent)
+-- the four steps of a settle: the client is made ready, what it has sent is taken and served, and it gets what is
+-- there, where all of it can travel
+module _ (world : World) (ready taken served done : WorldState) (sent : List Sent) (most : ℕ)
     (takes : TakesSent ready taken sent)
-    (serves : (w : World) → taken ≡ shown w → served ≡ shown (fold serve_next w sent))
-    (finishes : (w : World) → served ≡ shown w → done ≡ shown (finish w w.client)) where
-  served_from : (client : Client) → ready ≡ shown (with_client world client) → done ≡ shown (serve_all world client)
-  served_from client is =
+    (serves : (w : World) → taken ≡ shown w → AllTravel w.channel sent → served ≡ shown (fold serve_next w sent))
+    (finishes : (w : World) (few : ℕ) → served ≡ shown w → IsSmallWorld few w → done ≡ shown (finish w w.client)) where
+  served_from : (client : Client) → IsSmallWorld most world → IsSmallClient most world.channel client → ready ≡ shown (with_client world client) → done ≡ shown (serve_all world client)
+  served_from client small own is =
       let took : TakesSent (shown (with_client world client)) taken sent = subst (λ (s : WorldState). TakesSent s taken sent) is takes in
       let start : World = with_client world (record client { sent = [] }) in
-      let all : served ≡ shown (fold serve_next start client.sent) = serves start took.0 ∙ ap (λ xs. shown (fold serve_next start xs)) took.1 in
-      finishes (fold serve_next start client.sent) all
+      let begun : IsSmallWorld most start = record { name = small.name; entries = small.entries; client = small_taken most world.channel client own } in
+      let travels : AllTravel world.channel client.sent = all_travel most world.channel client own in
+      let all : served ≡ shown (fold serve_next start client.sent) =
+      serves start took.0 (subst (λ xs. AllTravel world.channel xs) (sym took.1) travels) ∙ ap (λ xs. shown (fold serve_next start xs)) took.1 in
+      finishes (fold serve_next start client.sent) most all (all_served_small most client.sent start begun travels)
 
-  settled_from : (state : ConnState) (client : Client) → IsReadyFrom state world client ready true → done ≡ shown (settle_in state world client)
-  settled_from conn.Connecting client is = served_from (connected client) is.1
-  settled_from conn.Connected client is = served_from client is.1
-  settled_from conn.Initialized client is = absurd (cc)
-  settled_from conn.Disconnected client is = absurd (cc)
-  settled_from conn.Suspended client is = absurd (cc)
-  settled_from conn.Closing client is = absurd (cc)
-  settled_from conn.Closed client is = absurd (cc)
-  settled_from conn.Failed client is = absurd (cc)
+  settled_from : (state : ConnState) (client : Client) → IsSmallWorld most world → IsReadyClient most world.channel state client → IsReadyFrom state world client ready true → done ≡ shown (settle_in state world client)
+  settled_from conn.Connecting client small own is = served_from (connected client) small own is.1
+  settled_from conn.Connected client small own is = served_from client small own is.1
+  settled_from conn.Initialized client small own is = absurd (cc)
+  settled_from conn.Disconnected client small own is = absurd (cc)
+  settled_from conn.Suspended client small own is = absurd (cc)
+  settled_from conn.Closing client small own is = absurd (cc)
+  settled_from conn.Closed client small own is = absurd (cc)
+  settled_from conn.Failed client small own is = absurd (cc)
 
-  pub settled : (client : Option Client) → MakesReady world client ready true → done ≡ shown (settle world client)
-  settled None is = absurd (cc)
-  settled (Some client) is = settled_from client.conn client is
+  pub settled : (client : Option Client) → HasReadyClient most world client → MakesReady world client ready true → done ≡ shown (settle world client)
+  settled None own is = absurd (cc)
+  settled (Some client) own is = settled_from client.conn client own.0 own.1 is
 
 -- no client is to be served
 module _ (world : World) (kept : WorldState) where
@@ -93,3 +101,19 @@ pub named_and_fed : (world : World) (old named_state new : WorldState) (channel 
 named_and_fed world old named_state new channel text count is names feeds fits =
     feeds (record world { channel = named world.channel channel })
     (names ∙ ap (λ (s : WorldState). record s { channel = named s.channel channel }) is) fits
+
+-- an attached client gets what is there, and nothing else changes
+pub finished : (world : World) (most : ℕ) (machine : ChannelState) (begun : Bool) (fed : ℕ) (channel : Option (List ℕ)) (held : Option Client) (client new : Client) (name : List ℕ)
+    → record { machine = machine; begun = begun; fed = fed; channel = channel; client = held } ≡ shown world → held ≡ Some client → channel ≡ Some name → IsSmallWorld most world
+    → (IsChannelName name → AreSmallEntries machine.log → new ≡ record client { segments = got_in client.chan machine.log client.segments })
+    → record { machine = machine; begun = begun; fed = fed; channel = channel; client = Some new } ≡ shown (finish world world.client)
+finished world most machine begun fed channel held client new name is has called small gets =
+    let same : machine.log ≡ log world.past = ap (λ (s : WorldState). s.machine.log) is in
+    let whose : Some client ≡ world.client = sym has ∙ ap (λ (s : WorldState). s.client) is in
+    let which : Some name ≡ world.channel = sym called ∙ ap (λ (s : WorldState). s.channel) is in
+    let got : new ≡ record client { segments = got_in client.chan (log world.past) client.segments } =
+    gets (subst HasSmallName (sym which) small.name) (subst AreSmallEntries (sym same) small.entries)
+    ∙ ap (λ entries. record client { segments = got_in client.chan entries client.segments }) same in
+    ap (λ (s : WorldState). record s { client = Some new }) is
+    ∙ ap (λ (c : Client). record (shown world) { client = Some c }) got
+    ∙ ap (λ (o : Option Client). shown (finish world o)) whose

@@ -7,6 +7,7 @@ use Rattle.rl_model.specs.Records.{the_epoch}
 use Rattle.rl_model.specs.World.{World, final}
 use Rattle.rl_model.specs.Script.{fed_by}
 use Rattle.rl_claims.specs.Sound.{HasSoundRecords}
+use Rattle.rl_world.specs.Travels.{SendsSmall}
 use Rattle.rl_plainchannel.specs.State.{ChannelState, state_of}
 
 pub record WorldState : Type 0 where
@@ -35,7 +36,9 @@ shown world =
 abbrev pub StandsFor : WorldState → List Line → Type 0
 StandsFor state script = state ≡ shown (final script)
 
--- what holds of a world when a line follows: its records are sound, and the entries fed can be counted
+-- what holds of a world when a line follows: its records are sound, the entries fed can be counted, and what it
+-- sends is small
 pub record MayFollow (world : World) (line : Line) : Type 0 where
   pub sound : HasSoundRecords world
   pub countable : world.fed + fed_by line < 2 ^ 64
+  pub small : SendsSmall world

@@ -4,6 +4,7 @@ ghost use Rattle.rl_world.specs.Ends.{EndBy};
 ghost use Rattle.rl_world.specs.Ready.{IsReady};
 
 use crate::records::held;
+use crate::travel::connected_arrives;
 use rl_ids::{Copied, List, NoMemory, Text};
 use rl_model::{Client, Sent};
 use rl_types::{Body, ChanState, Command, ConnState, Given};
@@ -88,11 +89,14 @@ fn push_pending(
     Ok(())
 }
 
-// The client was just connected: it attaches again, and sends again what was not answered. No segment
+// The client is told that it is connected: it attaches again, and sends again what was not answered. No segment
 // ends past the head.
 pub fn connect(alloc: Global, client: &mut Client, head: u64) -> Result<(), NoMemory>
     ensures { OnOk result (EndBy head client.old.segments → client.new ≡ connected client.old) }
 {
+    if !connected_arrives(alloc)? {
+        return Ok(());
+    }
     let mut sent = List::new(alloc);
     if matches!(client.chan, ChanState::Attaching | ChanState::Attached) {
         let serial = held(alloc, &client.asked, &client.segments, head)?;

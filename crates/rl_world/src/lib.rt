@@ -5,6 +5,7 @@ mod client;
 mod findings;
 mod records;
 mod serving;
+mod travel;
 mod world;
 
 pub use world::{World, run};

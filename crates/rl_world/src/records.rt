@@ -1,9 +1,13 @@
-ghost use Rattle.std.specs.Prelude.{◌≡◌, ◌-◌, ◌^◌, ◌<◌, min, drop, length, OnOk, IfOk};
-ghost use Rattle.rl_model.specs.Records.{segment_end, segments_after, caught_up, more_got, held_of, last_segment};
+ghost use Rattle.std.specs.Prelude.{◌≡◌, ◌-◌, ◌^◌, ◌<◌, ◌++◌, min, drop, map, length, OnOk, IfOk};
+ghost use Rattle.rl_model.specs.Records.{got_of, segment_end, segments_after, caught_up, got_in, more_got, held_of, last_segment};
+ghost use Rattle.rl_model.specs.Limits.{IsChannelName};
 ghost use Rattle.rl_world.specs.Ends.{EndBy};
+ghost use Rattle.rl_world.specs.Travels.{AreSmallEntries};
 
-use rl_ids::{ChannelSerial, Copied, Epoch, List, NoMemory, Place};
-use rl_types::{Cause, Entry, Given, Segment};
+use crate::travel::entry_arrives;
+use rl_ids::{ChannelSerial, Copied, Epoch, List, NoMemory, Place, Text};
+use rl_model::Client;
+use rl_types::{Cause, ChanState, Entry, Given, Segment};
 use std::alloc::Global;
 
 /// The epoch in which every script runs.
@@ -56,27 +60,67 @@ pub fn rest_of(log: &[Entry], place: u64) -> &[Entry]
     }
 }
 
-// The segment gets every entry of the log behind its end.
-fn get_more(alloc: Global, segment: &mut Segment, log: &[Entry]) -> Result<(), NoMemory>
-    ensures { OnOk result (segment.new ≡ more_got log.now segment.old) }
+// These entries arrive at the client, one after another.
+fn get_all(
+    alloc: Global,
+    channel: &Text,
+    segment: &mut Segment,
+    entries: &[Entry],
+) -> Result<(), NoMemory>
+    ensures { OnOk result (IsChannelName channel.now → AreSmallEntries entries.now → segment.new ≡ record segment.old { got = segment.old.got ++ map got_of entries.now }) }
 {
-    let end = segment_end(segment);
-    for entry in rest_of(log, end) {
-        segment.got.push((entry.place, entry.body.copy(alloc)?))?;
+    for entry in entries {
+        let Some(got) = entry_arrives(alloc, channel, entry)? else {
+            return Ok(());
+        };
+        segment.got.push(got)?;
     }
     Ok(())
 }
 
+// The segment gets every entry of the log behind its end.
+fn get_more(
+    alloc: Global,
+    channel: &Text,
+    segment: &mut Segment,
+    log: &[Entry],
+) -> Result<(), NoMemory>
+    ensures { OnOk result (IsChannelName channel.now → AreSmallEntries log.now → segment.new ≡ more_got log.now segment.old) }
+{
+    let end = segment_end(segment);
+    get_all(alloc, channel, segment, rest_of(log, end))
+}
+
 // The last segment gets every entry of the log behind its end.
-pub fn catch_up(alloc: Global, segments: &mut List<Segment>, log: &[Entry]) -> Result<(), NoMemory>
-    ensures { OnOk result (segments.new ≡ caught_up log.now segments.old) }
+fn catch_up(
+    alloc: Global,
+    channel: &Text,
+    segments: &mut List<Segment>,
+    log: &[Entry],
+) -> Result<(), NoMemory>
+    ensures { OnOk result (IsChannelName channel.now → AreSmallEntries log.now → segments.new ≡ caught_up log.now segments.old) }
 {
     let count = segments.len();
     if count == 0 {
         return Ok(());
     }
     let last = segments.at_mut(count - 1);
-    get_more(alloc, last, log)
+    get_more(alloc, channel, last, log)
+}
+
+// An attached client gets every entry of the log behind those that it got.
+pub fn get_entries(
+    alloc: Global,
+    channel: &Text,
+    client: &mut Client,
+    log: &[Entry],
+) -> Result<(), NoMemory>
+    ensures { OnOk result (IsChannelName channel.now → AreSmallEntries log.now → client.new ≡ record client.old { segments = got_in client.old.chan log.now client.old.segments }) }
+{
+    if client.chan != ChanState::Attached {
+        return Ok(());
+    }
+    catch_up(alloc, channel, &mut client.segments, log)
 }
 
 // The serial that a client holds, where no segment ends past the head.

@@ -1,4 +1,4 @@
-ghost use Rattle.std.specs.Prelude.{◌≡◌, ◌++◌, ◌∷◌, List, Some, OnOk, IfOk};
+ghost use Rattle.std.specs.Prelude.{◌≡◌, ◌<◌, ◌^◌, ◌++◌, ◌∷◌, List, Some, OnOk, IfOk};
 ghost use Rattle.std.specs.Option.{option_to_list};
 ghost use Rattle.rl_types.specs.declared.channel.ChannelEvent.{ChannelEvent};
 ghost use Rattle.rl_model.specs.Verdict.{decisions, verdict};
@@ -6,6 +6,7 @@ ghost use Rattle.rl_model.specs.World.{answer_of, one_message, the_conn, feed_co
 ghost use Rattle.rl_plainchannel.specs.State.{StandsFor};
 ghost use Rattle.rl_world.specs.Ready.{acknowledgement};
 
+use crate::travel::answer_arrives;
 use rl_ids::{ConnNo, Copied, List, Moment, NoMemory, Text, write_conn};
 use rl_model::Client;
 use rl_plainchannel::PlainChannel;
@@ -18,10 +19,14 @@ pub const CLIENT: ConnNo = ConnNo(1);
 /// The connection by which entries are fed.
 const FEED: ConnNo = ConnNo(0);
 
-// The acknowledgement of the client's message with this serial, or its refusal with this code.
+// What the client gets of the acknowledgement of its message with this serial, or of its refusal with this
+// code.
 fn acknowledged(alloc: Global, serial: u64, code: Option<u32>) -> Result<Option<Answer>, NoMemory>
-    ensures { IfOk result (λ answer. answer ≡ Some (acknowledgement serial code)) }
+    ensures { IfOk result (λ answer. serial < 2 ^ 53 → answer ≡ Some (acknowledgement serial code)) }
 {
+    let Some((serial, code)) = answer_arrives(alloc, serial, code)? else {
+        return Ok(None);
+    };
     let conn = write_conn(alloc, CLIENT)?;
     Ok(Some(match code {
         None => Answer::Ack { conn, serial },
@@ -36,7 +41,7 @@ pub fn put_message(
     serial: u64,
     body: Body,
 ) -> Result<Option<Answer>, NoMemory>
-    ensures decided { IfOk result (λ answer. (past : List ChannelEvent) → StandsFor machine.old past →
+    ensures decided { IfOk result (λ answer. (past : List ChannelEvent) → serial < 2 ^ 53 → StandsFor machine.old past →
         (option_to_list answer ≡ answer_of serial (verdict (decisions past) the_conn serial body))
         × StandsFor machine.new (ChannelEvent.Put the_conn serial body 0 ∷ past)) }
     ensures epoch { machine.new.epoch ≡ machine.old.epoch }

@@ -3,19 +3,24 @@ ghost use Rattle.rl_types.specs.declared.channel.ChannelEvent.{ChannelEvent};
 ghost use Rattle.rl_types.specs.declared.script.Line.{Line};
 ghost use Rattle.rl_model.specs.World as model;
 ghost use Rattle.rl_model.specs.Findings.{findings};
-ghost use Rattle.rl_model.specs.Script.{fed};
+ghost use Rattle.rl_model.specs.Script.{fed, published};
+ghost use Rattle.rl_model.specs.Limits.{AreSmallLines};
+ghost use Rattle.rl_model.specs.Records.{the_epoch};
+ghost use Rattle.rl_model.specs.Reply.{is_resumed, joined_place};
 ghost use Rattle.rl_model.specs.declared.plain.Sent.TheVariants.{Asks, Sends};
 ghost use Rattle.rl_claims.specs.Sound.{HasSoundRecords};
 ghost use Rattle.rl_world.specs.State.{shown, StandsFor, MayFollow};
 ghost use Rattle.rl_world.specs.Ready.{MakesReady, TakesSent};
+ghost use Rattle.rl_world.specs.Travels.{AllTravel, CanTravel, IsNamed, IsSmallWorld, SendsSmall};
 ghost use Rattle.rl_world.specs.Steps.{acted, with_conn};
 ghost use Rattle.rl_model.specs.Client.{opened, dropped};
 
 use crate::client::{attach, channel_of, dropped, make_ready, new_client, opened, publish};
 use crate::findings::{channels_of, clients_of};
-use crate::records::{EPOCH, begin_segment, catch_up};
+use crate::records::{EPOCH, begin_segment, get_entries};
 use crate::serving::{one_message, push_answer, put_fed, put_message};
-use rl_ids::{Copied, List, NoMemory, Text};
+use crate::travel::{attached_arrives, sent_arrives};
+use rl_ids::{Copied, List, NoMemory, Place, Text};
 use rl_model::{Client, Sent};
 use rl_plainchannel::PlainChannel;
 use rl_types::{Body, ChanState, Command, Findings, Given, Line, Script};
@@ -57,26 +62,46 @@ impl World {
 
     // An ATTACH is answered: the client's segments go on, or a new one begins.
     fn join(&mut self, alloc: Global, asked: Option<Given>) -> Result<(), NoMemory>
-        ensures { OnOk result ((world : model.World) → self.old ≡ shown world → self.new ≡ shown (model.serve_next world (Asks asked))) }
+        ensures { OnOk result ((world : model.World) → self.old ≡ shown world → IsNamed world.channel → self.new ≡ shown (model.serve_next world (Asks asked))) }
     {
-        let joined = self.machine.join(&asked);
+        let Some((place, resumed)) = self.attached_arrives(alloc, &asked)? else {
+            return Ok(());
+        };
         if let Some(client) = &mut self.client {
-            begin_segment(
-                alloc,
-                &mut client.segments,
-                asked,
-                joined.resumed,
-                joined.place,
-            )?;
+            begin_segment(alloc, &mut client.segments, asked, resumed, place)?;
             client.chan = ChanState::Attached;
             self.begun = true;
         }
         Ok(())
     }
 
+    // What arrives at the client of the answer to an ATTACH with this serial.
+    fn attached_arrives(
+        &self,
+        alloc: Global,
+        asked: &Option<Given>,
+    ) -> Result<Option<(Place, bool)>, NoMemory>
+        ensures { IfOk result (λ told. (world : model.World) → self.now ≡ shown world → IsNamed world.channel →
+            told ≡ Some (joined_place the_epoch world.past asked.now, is_resumed the_epoch world.past asked.now)) }
+    {
+        let Some(name) = &self.channel else {
+            return Ok(None);
+        };
+        let joined = self.machine.join(asked);
+        let presence = joined.place != self.machine.head();
+        attached_arrives(
+            alloc,
+            name,
+            joined.place,
+            joined.resumed,
+            presence,
+            asked.is_some(),
+        )
+    }
+
     // A message of the client is taken up and acknowledged.
     fn take_message(&mut self, alloc: Global, serial: u64, body: Body) -> Result<(), NoMemory>
-        ensures { OnOk result ((world : model.World) → self.old ≡ shown world → self.new ≡ shown (model.serve_next world (Sends serial body))) }
+        ensures { OnOk result ((world : model.World) → self.old ≡ shown world → serial < 2 ^ 53 → self.new ≡ shown (model.serve_next world (Sends serial body))) }
     {
         if let Some(client) = &mut self.client {
             let answer = put_message(alloc, &mut self.machine, serial, body)?;
@@ -86,18 +111,29 @@ impl World {
         Ok(())
     }
 
-    fn serve(&mut self, alloc: Global, sent: Sent) -> Result<(), NoMemory>
-        ensures { OnOk result ((world : model.World) → self.old ≡ shown world → self.new ≡ shown (model.serve_next world sent)) }
+    // What arrives at the service of what the client has sent.
+    fn sent_arrives(&self, alloc: Global, sent: Sent) -> Result<Option<Sent>, NoMemory>
+        ensures { IfOk result (λ arrived. CanTravel self.now.channel sent → arrived ≡ Some sent) }
     {
-        match sent {
-            Sent::Asks(asked) => self.join(alloc, asked),
-            Sent::Sends(serial, body) => self.take_message(alloc, serial, body),
+        match &self.channel {
+            Some(name) => sent_arrives(alloc, name, sent),
+            None => Ok(None),
+        }
+    }
+
+    fn serve(&mut self, alloc: Global, sent: Sent) -> Result<(), NoMemory>
+        ensures { OnOk result ((world : model.World) → self.old ≡ shown world → CanTravel world.channel sent → self.new ≡ shown (model.serve_next world sent)) }
+    {
+        match self.sent_arrives(alloc, sent)? {
+            Some(Sent::Asks(asked)) => self.join(alloc, asked),
+            Some(Sent::Sends(serial, body)) => self.take_message(alloc, serial, body),
+            None => Ok(()),
         }
     }
 
     // All that was sent is served in order.
     fn serve_all(&mut self, alloc: Global, all: List<Sent>) -> Result<(), NoMemory>
-        ensures { OnOk result ((world : model.World) → self.old ≡ shown world → self.new ≡ shown (fold model.serve_next world all)) }
+        ensures { OnOk result ((world : model.World) → self.old ≡ shown world → AllTravel world.channel all → self.new ≡ shown (fold model.serve_next world all)) }
     {
         for sent in all.into_vec() {
             self.serve(alloc, sent)?;
@@ -107,16 +143,14 @@ impl World {
 
     // An attached client gets every later entry.
     fn finish(&mut self, alloc: Global) -> Result<(), NoMemory>
-        ensures { OnOk result ((world : model.World) → self.old ≡ shown world → self.new ≡ shown (model.finish world world.client)) }
+        ensures { OnOk result ((world : model.World) (most : ℕ) → self.old ≡ shown world → IsSmallWorld most world → self.new ≡ shown (model.finish world world.client)) }
     {
+        let Some(name) = &self.channel else {
+            return Ok(());
+        };
         if let Some(client) = &mut self.client {
-            if client.chan == ChanState::Attached {
-                catch_up(
-                    alloc,
-                    &mut client.segments,
-                    self.machine.entries().as_slice(),
-                )?;
-            }
+            let entries = self.machine.entries().as_slice();
+            get_entries(alloc, name, client, entries)?;
         }
         Ok(())
     }
@@ -143,7 +177,7 @@ impl World {
     }
 
     fn settle(&mut self, alloc: Global) -> Result<(), NoMemory>
-        ensures { OnOk result ((world : model.World) → self.old ≡ shown world → HasSoundRecords world → self.new ≡ shown (model.settle world world.client)) }
+        ensures { OnOk result ((world : model.World) → self.old ≡ shown world → HasSoundRecords world → SendsSmall world → self.new ≡ shown (model.settle world world.client)) }
     {
         if !self.make_ready(alloc)? {
             return Ok(());
@@ -266,10 +300,13 @@ impl World {
     }
 }
 
-/// Runs a script: the world that its lines make of an empty one. Of the script it needs that the entries that
-/// it feeds can be counted with 64 bits, as those of every script that was read can.
+/// Runs a script: the world that its lines make of an empty one. What its client and the service send to each
+/// other travels as the JSON bytes of frames. Of the script it needs that the messages which it publishes and
+/// feeds can be numbered, and that what its lines name and send is small enough to travel, as holds of every
+/// script that was read.
 pub fn run(alloc: Global, script: &Script) -> Result<World, NoMemory>
-    requires { fed script.now.lines < 2 ^ 64 }
+    requires few { published script.now.lines + fed script.now.lines < 2 ^ 53 }
+    requires small { AreSmallLines script.now.lines }
     ensures { IfOk result (λ world. StandsFor world script.now.lines) }
 {
     let mut world = World::new(alloc);

@@ -1,6 +1,7 @@
 // The stages of a run.
-ghost use Rattle.std.specs.Prelude.{◌≡◌, ◌≤◌, ◌<◌, ◌^◌, IfOk, string_bytes, length, Ok};
-ghost use Rattle.rl_model.specs.Script.{script_of, fed};
+ghost use Rattle.std.specs.Prelude.{◌≡◌, ◌+◌, ◌≤◌, ◌<◌, ◌^◌, IfOk, string_bytes, length, Ok};
+ghost use Rattle.rl_model.specs.Script.{script_of, fed, published};
+ghost use Rattle.rl_model.specs.Limits.{AreSmallLines};
 ghost use Rattle.rlscript.specs.Top.{refusal, script_report, IsWorldOf};
 ghost use Rattle.rlscript.specs.Stages.{Said, Ran, RanScript, Reported};
 
@@ -39,7 +40,8 @@ pub fn say<K: Sink>(out: &mut K, text: &[u8], status: u8) -> u8
 
 // The world of a script, and its report.
 fn world_and_report(alloc: Global, script: &Script) -> Result<(World, Blob), NoMemory>
-    requires { fed script.now.lines < 2 ^ 64 }
+    requires few { published script.now.lines + fed script.now.lines < 2 ^ 53 }
+    requires small { AreSmallLines script.now.lines }
     ensures { IfOk result (λ made. Reported made.0 made.1 script.now.lines) }
 {
     let world = run(alloc, script)?;
@@ -50,7 +52,8 @@ fn world_and_report(alloc: Global, script: &Script) -> Result<(World, Blob), NoM
 
 // Runs a script and writes its report.
 fn run_script<K: Sink>(alloc: Global, script: &Script, out: &mut K) -> ScriptEnd
-    requires { fed script.now.lines < 2 ^ 64 }
+    requires few { published script.now.lines + fed script.now.lines < 2 ^ 53 }
+    requires small { AreSmallLines script.now.lines }
     ensures { RanScript script.now.lines result.status result.world (K.written out.old) (K.written out.new) (K.faults out.old) (K.faults out.new) }
 {
     let Ok((world, text)) = world_and_report(alloc, script) else {
