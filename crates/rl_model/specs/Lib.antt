@@ -3,6 +3,8 @@ pub mod History
 pub mod Ids
 pub mod Verdict
 pub mod Window
+pub mod Members
+pub mod Parts
 pub mod Reply
 pub mod Records
 pub mod Client

@@ -1,7 +1,7 @@
 -- What a channel answers to each event, from its whole history.
 use Rattle.std.specs.Prelude.{ℕ, ◌+◌, Bool, false, ◌&&◌, ◌||◌, not, if◌then◌else◌, ◌==◌, nat_lt, List, take, drop, Option, Some, None}
 use Rattle.rl_types.specs.declared.channel.ChannelEvent.{ChannelEvent}
-use Rattle.rl_types.specs.declared.channel.ChannelEvent.TheVariants.{Put, Join, Read, Gone, Tick, Census}
+use Rattle.rl_types.specs.declared.channel.ChannelEvent.TheVariants.{Put, Join, Read, MemberPage, Gone, Tick, Census}
 use Rattle.rl_types.specs.declared.channel.ChannelReply.{ChannelReply}
 use Rattle.rl_types.specs.declared.channel.ChannelReply.TheVariants as replies
 use Rattle.rl_types.specs.declared.channel.ReadReply.{ReadReply}
@@ -9,6 +9,7 @@ use Rattle.rl_types.specs.declared.channel.ReadReply.TheVariants.{Run, NotRetain
 use Rattle.rl_types.specs.declared.messages.Given.{Given}
 use Rattle.rl_types.specs.declared.messages.Given.TheVariants.{Ours}
 use Rattle.rl_model.specs.Verdict.{decisions, verdict, log, head}
+use Rattle.rl_model.specs.Members.{members, page_items, is_last_page}
 use Rattle.rl_model.specs.Window.{first, is_retained}
 
 -- RESUMED (RTL12): a serial was given, it is of this run's epoch, and its place is retained
@@ -39,6 +40,7 @@ reply epoch past (Join asked) =
     let place = joined_place epoch past asked in
     replies.Joined (record { epoch = epoch; place = place }) (is_resumed epoch past asked) (not (place == head past)) false
 reply epoch past (Read from most) = replies.Read (read_reply past from most)
+reply epoch past (MemberPage after most) = replies.Members (page_items after most (members (log past))) (is_last_page after most (members (log past))) (head past)
 reply epoch past (Gone conn now) = replies.Gone None
 reply epoch past (Tick now) = replies.Ticked
 reply epoch past Census = replies.Census (first past) (head past) 0 1
