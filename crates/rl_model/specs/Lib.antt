@@ -13,4 +13,5 @@ pub mod Findings
 pub mod Report
 pub mod Script
 pub mod Examples
+pub mod ChannelExamples
 pub mod Limits

@@ -1,14 +1,16 @@
 -- What a channel answers to each event, from its whole history.
-use Rattle.std.specs.Prelude.{ℕ, ◌+◌, Bool, false, ◌&&◌, ◌||◌, not, if◌then◌else◌, ◌==◌, nat_lt, List, take, drop, Option, Some, None}
+use Rattle.std.specs.Prelude.{ℕ, ◌+◌, Bool, false, ◌&&◌, ◌||◌, not, if◌then◌else◌, ◌==◌, nat_lt, List, length, take, drop, max, Option, Some, None, option_map}
 use Rattle.rl_types.specs.declared.channel.ChannelEvent.{ChannelEvent}
 use Rattle.rl_types.specs.declared.channel.ChannelEvent.TheVariants.{Put, Join, Read, MemberPage, Gone, Tick, Census}
 use Rattle.rl_types.specs.declared.channel.ChannelReply.{ChannelReply}
 use Rattle.rl_types.specs.declared.channel.ChannelReply.TheVariants as replies
 use Rattle.rl_types.specs.declared.channel.ReadReply.{ReadReply}
 use Rattle.rl_types.specs.declared.channel.ReadReply.TheVariants.{Run, NotRetained}
+use Rattle.rl_types.specs.declared.messages.Entry.{Entry}
 use Rattle.rl_types.specs.declared.messages.Given.{Given}
 use Rattle.rl_types.specs.declared.messages.Given.TheVariants.{Ours}
-use Rattle.rl_model.specs.Verdict.{decisions, verdict, log, head}
+use Rattle.rl_model.specs.History.{clock}
+use Rattle.rl_model.specs.Verdict.{decisions, decided, verdict, log, head}
 use Rattle.rl_model.specs.Members.{members, page_items, is_last_page}
 use Rattle.rl_model.specs.Window.{first, is_retained}
 
@@ -38,9 +40,10 @@ abbrev pub reply : ℕ → List ChannelEvent → ChannelEvent → ChannelReply
 reply epoch past (Put conn serial body now) = replies.Put (verdict (decisions past) conn serial body)
 reply epoch past (Join asked) =
     let place = joined_place epoch past asked in
-    replies.Joined (record { epoch = epoch; place = place }) (is_resumed epoch past asked) (not (place == head past)) false
+    replies.Joined (record { epoch = epoch; place = place }) (is_resumed epoch past asked) (not (place == head past) || not (length (members (log past)) == 0)) false
 reply epoch past (Read from most) = replies.Read (read_reply past from most)
 reply epoch past (MemberPage after most) = replies.Members (page_items after most (members (log past))) (is_last_page after most (members (log past))) (head past)
-reply epoch past (Gone conn now) = replies.Gone None
+reply epoch past (Gone conn now) =
+    replies.Gone (option_map (λ (e : Entry). e.place) (decided (max now (clock past)) (decisions past) (Gone conn now)).entry)
 reply epoch past (Tick now) = replies.Ticked
-reply epoch past Census = replies.Census (first past) (head past) 0 1
+reply epoch past Census = replies.Census (first past) (head past) (length (members (log past))) 1

@@ -1,5 +1,5 @@
 -- What a channel answers to a Put, and the log that it keeps.
-use Rattle.std.specs.Prelude.{ℕ, ◌+◌, ◌-◌, ◌^◌, Bool, true, false, ◌||◌, not, if◌then◌else◌, ◌==◌, nat_lt, List, [], ◌∷◌, ◌++◌, length, take, drop, find, filter_map, Option, Some, None, option_and_then, option_map, option_to_list, bytes_eq}
+use Rattle.std.specs.Prelude.{ℕ, suc, ◌+◌, ◌-◌, ◌^◌, Bool, true, false, ◌||◌, not, if◌then◌else◌, ◌==◌, nat_lt, List, [], ◌∷◌, ◌++◌, length, take, drop, find, filter, filter_map, map, reverse, Option, Some, None, option_and_then, option_map, option_to_list, bytes_eq}
 use Rattle.std.specs.List.{list_any}
 use Rattle.rl_types.specs.declared.channel.ChannelEvent.{ChannelEvent}
 use Rattle.rl_types.specs.declared.channel.ChannelEvent.TheVariants.{Put, Gone}
@@ -15,6 +15,9 @@ use Rattle.rl_types.specs.declared.presence.PresenceAction.{PresenceAction}
 use Rattle.rl_types.specs.declared.presence.PresenceAction.TheVariants as presence
 use Rattle.rl_types.specs.Weight.{body_weight}
 use Rattle.rl_model.specs.Ids.{given_id, has_mixed_ids, has_long, filled}
+use Rattle.rl_ids.specs.Forms.{conn_text}
+use Rattle.rl_model.specs.Texts.{gone_id}
+use Rattle.rl_model.specs.Members.{members_of, items_of, members, has_too_many, told_by, is_on}
 use Rattle.rl_model.specs.History.{clock}
 
 -- DECISIONS
@@ -103,12 +106,14 @@ is_bad_action item = not (is_put item.action)
 abbrev pub has_no_client : PresenceItem → Bool
 has_no_client item = length item.client == 0
 
--- the code of the first rule on its own kind that a body fails: 113 BadIds; 115 BadAction, 114 NoClientId
-abbrev pub failed_rule : Body → Option ℕ
-failed_rule (Messages items) = if has_mixed_ids items then Some 113 else None
-failed_rule (Presence items) =
+-- the code of the first rule on its own kind that a body of this connection fails: 113 BadIds; 115 BadAction,
+-- 114 NoClientId, 105 MemberLimit. The presence items of the log are given the latest first
+abbrev pub failed_rule : List PresenceItem → ℕ → Body → Option ℕ
+failed_rule latest conn (Messages items) = if has_mixed_ids items then Some 113 else None
+failed_rule latest conn (Presence items) =
     if list_any is_bad_action items then Some 115
     else if list_any has_no_client items then Some 114
+    else if has_too_many latest (map (told_by conn) items) then Some 105
     else None
 
 abbrev pub fails_or_adds : Option ℕ → Judgement
@@ -116,25 +121,29 @@ fails_or_adds (Some code) = Fails code
 fails_or_adds None = Adds
 
 -- 104 TooLong, 116 LogFull, the rules on its kind; else it adds
-abbrev pub judged_by_rules : ℕ → Body → Judgement
-judged_by_rules head body =
+abbrev pub judged_by_rules : ℕ → List PresenceItem → ℕ → Body → Judgement
+judged_by_rules head latest conn body =
     if nat_lt 65536 (body_weight body) || has_long body then Fails 104
     else if head == 2 ^ 64 - 2 then Fails 116
-    else fails_or_adds (failed_rule body)
+    else fails_or_adds (failed_rule latest conn body)
 
-abbrev pub judged_by_id : ℕ → Body → Option ℕ → Judgement
-judged_by_id head body (Some place) = Known place
-judged_by_id head body None = judged_by_rules head body
+abbrev pub judged_by_id : Option ℕ → Judgement → Judgement
+judged_by_id (Some place) new = Known place
+judged_by_id None new = new
 
 abbrev pub judged_by_serial : ℕ → Option (ℕ × Outcome) → Judgement → Judgement
 judged_by_serial serial None new = new
 judged_by_serial serial (Some last) new =
     if nat_lt serial last.0 then Stale else if serial == last.0 then Again last.1 else new
 
+-- the presence items of the log, the latest first
+abbrev pub told : List Decision → List PresenceItem
+told before = reverse (items_of (entries before))
+
 abbrev pub judged : List Decision → ℕ → ℕ → Body → Judgement
 judged before conn serial body =
     judged_by_serial serial (kept conn before)
-    (judged_by_id (length (entries before)) body (remembered_of body before))
+    (judged_by_id (remembered_of body before) (judged_by_rules (length (entries before)) (told before) conn body))
 
 abbrev pub verdict_at : ℕ → Judgement → Verdict
 verdict_at head Stale = Old
@@ -158,6 +167,35 @@ abbrev pub entry_of : ℕ → ℕ → ℕ → ℕ → Body → Entry
 entry_of head now conn serial body =
     record { place = head + 1; stamp = now; conn = conn; serial = Some serial; body = filled conn serial now body }
 
+-- what a Gone tells of each member, counted from an index: that it left
+abbrev pub leaves : ℕ → ℕ → ℕ → List PresenceItem → List PresenceItem
+leaves place now index [] = []
+leaves place now index (member ∷ members) =
+    record {
+      action = presence.Leave;
+      client = member.client;
+      conn = member.conn;
+      id = gone_id place index;
+      stamp = now;
+      payload = None;
+      encoding = None;
+    } ∷ leaves place now (suc index) members
+
+-- the entry that a Gone adds where its connection has these members
+abbrev pub gone_entry : ℕ → ℕ → ℕ → List PresenceItem → Entry
+gone_entry head now conn gone =
+    record { place = head + 1; stamp = now; conn = conn; serial = None; body = Presence (leaves (head + 1) now 0 gone) }
+
+-- it adds one where it has members and the log is not full
+abbrev pub entry_of_gone : ℕ → ℕ → ℕ → List PresenceItem → Option Entry
+entry_of_gone head now conn [] = None
+entry_of_gone head now conn (member ∷ gone) =
+    if head == 2 ^ 64 - 2 then None else Some (gone_entry head now conn (member ∷ gone))
+
+-- the members of a connection, in order of client id
+abbrev pub members_on : ℕ → List Decision → List PresenceItem
+members_on conn before = filter (is_on (conn_text conn)) (members (entries before))
+
 -- an event with the clock after it, decided after these decisions
 abbrev pub decided : ℕ → List Decision → ChannelEvent → Decision
 decided now before (Put conn serial body moment) =
@@ -165,6 +203,12 @@ decided now before (Put conn serial body moment) =
       event = Put conn serial body moment;
       verdict = Some (verdict before conn serial body);
       entry = entry_if (judged before conn serial body) (entry_of (length (entries before)) now conn serial body);
+    }
+decided now before (Gone conn moment) =
+    record {
+      event = Gone conn moment;
+      verdict = None;
+      entry = entry_of_gone (length (entries before)) now conn (members_on conn before);
     }
 decided now before event = record { event = event; verdict = None; entry = None }
 

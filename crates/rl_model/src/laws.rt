@@ -1,4 +1,5 @@
 //! Laws over the definitions alone. Each is a function that does nothing: its contract is the law.
+ghost use Rattle.rl_model.specs.ChannelExamples.{AnswersMembers};
 ghost use Rattle.rl_model.specs.Examples.{Prints, Refuses};
 
 /// The reports of small scripts.
@@ -11,4 +12,10 @@ pub fn examples_print()
 #[tactic(auto, using(crate::proofs::Printed::refused))]
 pub fn examples_refuse()
     ensures { Refuses }
+{}
+
+/// What a channel answers where members enter, change, leave and go with their connection.
+#[tactic(auto, using(crate::proofs::Answered::answered))]
+pub fn members_answer()
+    ensures { AnswersMembers }
 {}
