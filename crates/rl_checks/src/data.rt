@@ -1,8 +1,8 @@
 // Copies of plain data that no script comes to.
 use crate::base::is_copied;
 use rl_ids::{
-    ChannelSerial, ConnNo, Epoch, List, Moment, NoMemory, ObjectKind, OpSerial, Place, Text,
-    read_site,
+    ChannelSerial, ConnNo, Epoch, List, MemberKey, Moment, NoMemory, ObjectKind, OpSerial, Place,
+    Text, read_site,
 };
 use rl_types::{
     Answer, Body, Cause, ChanState, ChannelEvent, ChannelReply, ConnState, Given, Outcome,
@@ -71,6 +71,26 @@ fn small_events_are_copied(rt: HostRuntime) -> Result<(), NoMemory> {
     assert!(rt; is_copied(rt.alloc(), &gone)?);
     assert!(rt; is_copied(rt.alloc(), &ChannelEvent::Tick { now: Moment(3) })?);
     assert!(rt; is_copied(rt.alloc(), &ChannelEvent::Census)?);
+    Ok(())
+}
+
+#[test]
+fn pages_are_copied(rt: HostRuntime) -> Result<(), NoMemory> {
+    let key = MemberKey {
+        conn: Text::from_str(rt.alloc(), "c00000001")?,
+        client: Text::from_str(rt.alloc(), "a")?,
+    };
+    let page = ChannelEvent::MemberPage {
+        after: Some(key),
+        max: 64,
+    };
+    assert!(rt; is_copied(rt.alloc(), &page)?);
+    let members = ChannelReply::Members {
+        items: List::new(rt.alloc()),
+        last: true,
+        head: Place(1),
+    };
+    assert!(rt; is_reply_copied(rt.alloc(), members)?);
     Ok(())
 }
 

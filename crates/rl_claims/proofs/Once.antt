@@ -4,7 +4,7 @@ use Rattle.std.specs.Prelude.{⊤, Option, Some, None, find, option_map, option_
 use Rattle.std.specs.List.{AllByRecursion, cons_option}
 use Rattle.std.proofs.lemmas.Slice.Eq.{bytes_eq-Decides}
 use Rattle.rl_types.specs.declared.channel.ChannelEvent.{ChannelEvent}
-use Rattle.rl_types.specs.declared.channel.ChannelEvent.TheVariants.{Put, Join, Read, Gone, Tick, Census}
+use Rattle.rl_types.specs.declared.channel.ChannelEvent.TheVariants.{Put, Join, Read, MemberPage, Gone, Tick, Census}
 use Rattle.rl_types.specs.declared.messages.Entry.{Entry}
 use Rattle.rl_types.specs.declared.channel.Outcome.{Outcome}
 use Rattle.rl_types.specs.declared.messages.Body.{Body}
@@ -116,6 +116,7 @@ one_more now before (Put conn serial body moment) fine =
     (ap (λ n. n + 1) (sym (length-added before))) (adds_new before conn serial body) fine
 one_more now before (Join asked) fine = fine
 one_more now before (Read from max_count) fine = fine
+one_more now before (MemberPage after max_count) fine = fine
 one_more now before (Gone conn moment) fine = fine
 one_more now before (Tick moment) fine = fine
 one_more now before Census fine = fine

@@ -5,7 +5,7 @@ use Rattle.std.specs.List.{AllByRecursion}
 use Rattle.std.proofs.lemmas.Bool.{leb-true}
 use Rattle.std.proofs.lemmas.List.{map-append, length-map, take_all, take-append-drop, drop-drop}
 use Rattle.rl_types.specs.declared.channel.ChannelEvent.{ChannelEvent}
-use Rattle.rl_types.specs.declared.channel.ChannelEvent.TheVariants.{Put, Join, Read, Gone, Tick, Census}
+use Rattle.rl_types.specs.declared.channel.ChannelEvent.TheVariants.{Put, Join, Read, MemberPage, Gone, Tick, Census}
 use Rattle.rl_types.specs.declared.messages.Entry.{Entry}
 use Rattle.rl_types.specs.declared.messages.Body.{Body}
 use Rattle.rl_types.specs.declared.messages.Given.{Given}
@@ -50,6 +50,7 @@ pub joins_grow : (event : ChannelEvent) (past : List ChannelEvent) (segment : Se
 joins_grow (Join asked) past segment some = inr some
 joins_grow (Put conn serial body now) past segment some = some
 joins_grow (Read from max_count) past segment some = some
+joins_grow (MemberPage after most) past segment some = some
 joins_grow (Gone conn now) past segment some = some
 joins_grow (Tick now) past segment some = some
 joins_grow Census past segment some = some

@@ -14,7 +14,7 @@ use Rattle.std.specs.Map.{lookup, remove_entry, keys_of}
 use Rattle.std.specs.BTreeMap.{is_at, insert_entry}
 use Rattle.std.proofs.lemmas.Grind.{common_steps}
 use Rattle.rl_types.specs.declared.channel.ChannelEvent.{ChannelEvent}
-use Rattle.rl_types.specs.declared.channel.ChannelEvent.TheVariants.{Put, Join, Read, Gone, Tick, Census}
+use Rattle.rl_types.specs.declared.channel.ChannelEvent.TheVariants.{Put, Join, Read, MemberPage, Gone, Tick, Census}
 use Rattle.rl_types.specs.declared.channel.Verdict.{Verdict}
 use Rattle.rl_types.specs.declared.channel.Verdict.TheVariants.{Done, Old}
 use Rattle.rl_types.specs.declared.channel.Outcome.{Outcome}
@@ -79,6 +79,7 @@ outcomes_after_rise (Join asked) verdict earlier rises = rises
 outcomes_after_rise (Read from most) verdict earlier rises = rises
 outcomes_after_rise (Gone conn now) verdict earlier rises = rises_removed earlier _ rises
 outcomes_after_rise (Tick now) verdict earlier rises = rises
+outcomes_after_rise (MemberPage after most) verdict earlier rises = rises
 outcomes_after_rise Census verdict earlier rises = rises
 
 outcomes_rise : (before : List Decision) → IsStrictlySortedBy nat_cmp (keys_of (outcomes before))
@@ -105,6 +106,7 @@ kept_after conn (Join asked) verdict earlier rises = refl
 kept_after conn (Read from most) verdict earlier rises = refl
 kept_after conn (Gone c now) verdict earlier rises = lookup_removed earlier c conn rises
 kept_after conn (Tick now) verdict earlier rises = refl
+kept_after conn (MemberPage after most) verdict earlier rises = refl
 kept_after conn Census verdict earlier rises = refl
 
 pub kept_is_found : (conn : ℕ) (before : List Decision) → lookup (is_at (nat_cmp conn)) (outcomes before) ≡ kept conn before
