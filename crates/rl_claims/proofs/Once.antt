@@ -1,16 +1,17 @@
 -- Two entries with one given id stand far apart.
-use Rattle.std.proofs.Common.{◌≡◌, ℕ, zero, suc, ◌+◌, ◌<◌, ◌≤◌, Bool, true, false, cond, List, [], ◌∷◌, ◌++◌, length, take, refl, sym, ap, subst, arith, length-append}
+use Rattle.std.proofs.Common.{◌≡◌, ℕ, zero, suc, ◌+◌, ◌-◌, ◌^◌, ◌<◌, ◌≤◌, Bool, true, false, cond, List, [], ◌∷◌, ◌++◌, length, take, refl, sym, ap, ◌∙◌, subst, arith, length-append}
 use Rattle.std.specs.Prelude.{⊤, Option, Some, None, find, option_map, option_to_list, option_and_then, nat_lt, ◌==◌}
 use Rattle.std.specs.List.{AllByRecursion, cons_option}
 use Rattle.std.proofs.lemmas.Slice.Eq.{bytes_eq-Decides}
 use Rattle.rl_types.specs.declared.channel.ChannelEvent.{ChannelEvent}
 use Rattle.rl_types.specs.declared.channel.ChannelEvent.TheVariants.{Put, Join, Read, MemberPage, Gone, Tick, Census}
+use Rattle.rl_types.specs.declared.presence.PresenceItem.{PresenceItem}
 use Rattle.rl_types.specs.declared.messages.Entry.{Entry}
 use Rattle.rl_types.specs.declared.channel.Outcome.{Outcome}
 use Rattle.rl_types.specs.declared.messages.Body.{Body}
 use Rattle.rl_model.specs.History.{clock}
 use Rattle.rl_model.specs.Ids.{given_id}
-use Rattle.rl_model.specs.Verdict.{Decision, Added, added, added_by, entries, decided, decisions, is_text, remembered, remembered_of, judged, judged_by_id, judged_by_serial, given_id_of, Judgement, Stale, Again, Known, Fails, Adds, kept, entry_if}
+use Rattle.rl_model.specs.Verdict.{Decision, Added, added, added_by, entries, decided, decisions, is_text, remembered, remembered_of, judged, judged_by_id, judged_by_rules, judged_by_serial, told, entry_of_gone, members_on, given_id_of, Judgement, Stale, Again, Known, Fails, Adds, kept, entry_if, gone_entry}
 use Rattle.rl_claims.specs.Once.{AreApart, OnceById}
 
 -- PLACES
@@ -68,9 +69,9 @@ new_serial serial (Some last) new adds = by_tests (nat_lt serial last.0) (serial
     by_tests false true h = absurd (cc)
     by_tests false false h = h
 
-not_known : (head : ℕ) (body : Body) (place : Option ℕ) → judged_by_id head body place ≡ Adds → place ≡ None
-not_known head body None adds = refl
-not_known head body (Some place) adds = absurd (cc)
+not_known : (place : Option ℕ) (new : Judgement) → judged_by_id place new ≡ Adds → place ≡ None
+not_known None new adds = refl
+not_known (Some place) new adds = absurd (cc)
 
 none_found : (found : Option Added) → option_map (λ (a : Added). a.place) found ≡ None → found ≡ None
 none_found None h = refl
@@ -78,8 +79,9 @@ none_found (Some a) h = absurd (cc)
 
 adds_new : (before : List Decision) (conn serial : ℕ) (body : Body) → judged before conn serial body ≡ Adds → (id : List ℕ) → given_id body ≡ Some id → find (has id) (take 8192 (added before)) ≡ None
 adds_new before conn serial body adds id given =
-    let new = new_serial serial (kept conn before) (judged_by_id (length (entries before)) body (remembered_of body before)) adds in
-    let unknown = not_known (length (entries before)) body (remembered_of body before) new in
+    let rules = judged_by_rules (length (entries before)) (told before) conn body in
+    let new = new_serial serial (kept conn before) (judged_by_id (remembered_of body before) rules) adds in
+    let unknown = not_known (remembered_of body before) rules new in
     let F : Option (List ℕ) → Type 0 = λ x. option_and_then (λ (i : List ℕ). remembered i before) x ≡ None in
     none_found _ (subst F given unknown)
 
@@ -110,6 +112,19 @@ put_step (Again outcome) entry id more place new fine = fine
 put_step (Known p) entry id more place new fine = fine
 put_step (Fails code) entry id more place new fine = fine
 
+-- a Gone gives no id
+gone_place : (head now conn : ℕ) (gone : List PresenceItem) (entry : Entry) → entry_of_gone head now conn gone ≡ Some entry → entry.place ≡ head + 1
+gone_place head now conn [] entry some = absurd (cc)
+gone_place head now conn (member ∷ gone) entry some = by_test (head == 2 ^ 64 - 2) some
+  where
+    by_test : (full : Bool) → cond full None (Some (gone_entry head now conn (member ∷ gone))) ≡ Some entry → entry.place ≡ head + 1
+    by_test true h = absurd (cc)
+    by_test false h = cc
+
+gone_step : (entry : Option Entry) (more : List Added) → ((e : Entry) → entry ≡ Some e → e.place ≡ length more + 1) → Fine more → Fine (cons_option (added_by None entry) more)
+gone_step None more place fine = fine
+gone_step (Some entry) more place fine = put_step Adds entry None more (place entry refl) (λ adds id same. absurd (cc)) fine
+
 one_more : (now : ℕ) (before : List Decision) (event : ChannelEvent) → Fine (added before) → Fine (added (decided now before event ∷ before))
 one_more now before (Put conn serial body moment) fine =
     put_step (judged before conn serial body) _ (given_id body) (added before)
@@ -117,7 +132,9 @@ one_more now before (Put conn serial body moment) fine =
 one_more now before (Join asked) fine = fine
 one_more now before (Read from max_count) fine = fine
 one_more now before (MemberPage after max_count) fine = fine
-one_more now before (Gone conn moment) fine = fine
+one_more now before (Gone conn moment) fine =
+    gone_step (entry_of_gone (length (entries before)) now conn (members_on conn before)) (added before)
+    (λ e some. gone_place (length (entries before)) now conn (members_on conn before) e some ∙ ap (λ n. n + 1) (sym (length-added before))) fine
 one_more now before (Tick moment) fine = fine
 one_more now before Census fine = fine
 
