@@ -11,7 +11,7 @@ use Rattle.rl_types.specs.declared.channel.Outcome.{Outcome}
 use Rattle.rl_types.specs.declared.messages.Body.{Body}
 use Rattle.rl_model.specs.History.{clock}
 use Rattle.rl_model.specs.Ids.{given_id}
-use Rattle.rl_model.specs.Verdict.{Decision, Added, added, added_by, entries, decided, decisions, is_text, remembered, remembered_of, judged, judged_by_id, judged_by_rules, judged_by_serial, told, entry_of_gone, members_on, given_id_of, Judgement, Stale, Again, Known, Fails, Adds, kept, entry_if, gone_entry}
+use Rattle.rl_model.specs.Verdict.{Decision, Added, added, added_by, entries, decided, decisions, is_text, remembered, remembered_of, judged, judged_by_id, judged_by_rules, judged_by_serial, fails_or, limit_rule, told, entry_of_gone, members_on, given_id_of, Judgement, Stale, Again, Known, Fails, Adds, kept, entry_if, gone_entry}
 use Rattle.rl_claims.specs.Once.{AreApart, OnceById}
 
 -- PLACES
@@ -79,7 +79,7 @@ none_found (Some a) h = absurd (cc)
 
 adds_new : (before : List Decision) (conn serial : ℕ) (body : Body) → judged before conn serial body ≡ Adds → (id : List ℕ) → given_id body ≡ Some id → find (has id) (take 8192 (added before)) ≡ None
 adds_new before conn serial body adds id given =
-    let rules = judged_by_rules (length (entries before)) (told before) conn body in
+    let rules = judged_by_rules (length (entries before)) body (fails_or (limit_rule (told before) conn body) Adds) in
     let new = new_serial serial (kept conn before) (judged_by_id (remembered_of body before) rules) adds in
     let unknown = not_known (remembered_of body before) rules new in
     let F : Option (List ℕ) → Type 0 = λ x. option_and_then (λ (i : List ℕ). remembered i before) x ≡ None in

@@ -106,35 +106,38 @@ is_bad_action item = not (is_put item.action)
 abbrev pub has_no_client : PresenceItem → Bool
 has_no_client item = length item.client == 0
 
--- the code of the first rule on its own kind that a body of this connection fails: 113 BadIds; 115 BadAction,
--- 114 NoClientId, 105 MemberLimit. The presence items of the log are given the latest first
-abbrev pub failed_rule : List PresenceItem → ℕ → Body → Option ℕ
-failed_rule latest conn (Messages items) = if has_mixed_ids items then Some 113 else None
-failed_rule latest conn (Presence items) =
+-- the code of the first rule that a body fails by itself: 113 BadIds; 115 BadAction, 114 NoClientId
+abbrev pub own_rule : Body → Option ℕ
+own_rule (Messages items) = if has_mixed_ids items then Some 113 else None
+own_rule (Presence items) =
     if list_any is_bad_action items then Some 115
     else if list_any has_no_client items then Some 114
-    else if has_too_many latest (map (told_by conn) items) then Some 105
     else None
 
-abbrev pub fails_or_adds : Option ℕ → Judgement
-fails_or_adds (Some code) = Fails code
-fails_or_adds None = Adds
+-- 105 MemberLimit, which a body of this connection fails by the presence items of the log, the latest first
+abbrev pub limit_rule : List PresenceItem → ℕ → Body → Option ℕ
+limit_rule latest conn (Messages items) = None
+limit_rule latest conn (Presence items) = if has_too_many latest (map (told_by conn) items) then Some 105 else None
 
--- 104 TooLong, 116 LogFull, the rules on its kind; else it adds
-abbrev pub judged_by_rules : ℕ → List PresenceItem → ℕ → Body → Judgement
-judged_by_rules head latest conn body =
+abbrev pub fails_or : Option ℕ → Judgement → Judgement
+fails_or (Some code) next = Fails code
+fails_or None next = next
+
+-- 104 TooLong, 116 LogFull, the rules on its kind; else the next rule decides
+abbrev pub judged_by_rules : ℕ → Body → Judgement → Judgement
+judged_by_rules head body next =
     if nat_lt 65536 (body_weight body) || has_long body then Fails 104
     else if head == 2 ^ 64 - 2 then Fails 116
-    else fails_or_adds (failed_rule latest conn body)
+    else fails_or (own_rule body) next
 
 abbrev pub judged_by_id : Option ℕ → Judgement → Judgement
-judged_by_id (Some place) new = Known place
-judged_by_id None new = new
+judged_by_id (Some place) next = Known place
+judged_by_id None next = next
 
 abbrev pub judged_by_serial : ℕ → Option (ℕ × Outcome) → Judgement → Judgement
-judged_by_serial serial None new = new
-judged_by_serial serial (Some last) new =
-    if nat_lt serial last.0 then Stale else if serial == last.0 then Again last.1 else new
+judged_by_serial serial None next = next
+judged_by_serial serial (Some last) next =
+    if nat_lt serial last.0 then Stale else if serial == last.0 then Again last.1 else next
 
 -- the presence items of the log, the latest first
 abbrev pub told : List Decision → List PresenceItem
@@ -143,7 +146,10 @@ told before = reverse (items_of (entries before))
 abbrev pub judged : List Decision → ℕ → ℕ → Body → Judgement
 judged before conn serial body =
     judged_by_serial serial (kept conn before)
-    (judged_by_id (remembered_of body before) (judged_by_rules (length (entries before)) (told before) conn body))
+    (judged_by_id (remembered_of body before)
+    (judged_by_rules (length (entries before)) body
+    (fails_or (limit_rule (told before) conn body)
+    Adds)))
 
 abbrev pub verdict_at : ℕ → Judgement → Verdict
 verdict_at head Stale = Old
