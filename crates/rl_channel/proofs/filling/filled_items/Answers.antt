@@ -1,6 +1,6 @@
 use Rattle.std.proofs.Common.{arith}
-use Rattle.rl_plainchannel.proofs.Items.{filled_at_push}
-use Rattle.rl_plainchannel.proofs.filling.filled_items.Goals as goal
+use Rattle.rl_channel.proofs.Items.{filled_at_push}
+use Rattle.rl_channel.proofs.filling.filled_items.Goals as goal
 
 pub loop-item-preserved : goal.loop-item-preserved
 loop-item-preserved c =

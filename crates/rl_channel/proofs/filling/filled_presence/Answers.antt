@@ -1,6 +1,6 @@
 use Rattle.std.proofs.Common.{◌∙◌, ap, sym, ◌++◌, ◌∷◌, []}
-use Rattle.rl_plainchannel.proofs.PresenceItems.{presence_at_push}
-use Rattle.rl_plainchannel.proofs.filling.filled_presence.Goals as goal
+use Rattle.rl_channel.proofs.PresenceItems.{presence_at_push}
+use Rattle.rl_channel.proofs.filling.filled_presence.Goals as goal
 
 pub loop-item-preserved : goal.loop-item-preserved
 loop-item-preserved c =

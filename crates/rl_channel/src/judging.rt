@@ -1,18 +1,13 @@
-// How a put is decided, rule by rule. An answer is given where the put adds no entry.
-ghost use Rattle.std.specs.Prelude.{◌≡◌, ◌↔◌, ◌∷◌, [], Bool, ℕ, IsTrue, take, length, find, reverse, option_map, Some};
+// How a put is decided, rule by rule, up to the limit of members. An answer is given where a rule decides.
+ghost use Rattle.std.specs.Prelude.{◌≡◌};
 ghost use Rattle.std.specs.List.{list_all, list_any};
-ghost use Rattle.std.specs.Ordering.{nat_cmp};
-ghost use Rattle.std.specs.Map.{lookup};
-ghost use Rattle.std.specs.BTreeMap.{is_at};
 ghost use Rattle.rl_types.specs.Weight.{option_len};
 ghost use Rattle.rl_model.specs.Ids.{has_id, has_long, has_mixed_ids, is_long_id, is_long_presence};
-ghost use Rattle.rl_model.specs.Verdict.{Judgement, failed_rule, has_given, has_no_client, is_bad_action, judged_by_rules, judged_by_serial};
-ghost use Rattle.rl_plainchannel.specs.Steps.{settled, settled_by_serial, found_place};
+ghost use Rattle.rl_model.specs.Verdict.{Adds, has_no_client, is_bad_action, judged_by_rules, own_rule};
+ghost use Rattle.rl_channel.specs.Steps.{settled, settled_by_serial};
 
-use crate::channel::Remembered;
-use rl_ids::{ConnNo, Place, Same, Text};
+use rl_ids::Text;
 use rl_types::{Body, Item, Outcome, PresenceAction, PresenceItem, Verdict, weight};
-use std::collections::BTreeMap;
 
 // 104: the body is too long, or an id, or another text of it.
 const TOO_LONG: u32 = 104;
@@ -29,22 +24,15 @@ const NO_CLIENT_ID: u32 = 114;
 // 115: a presence item neither enters, leaves nor changes a member.
 const BAD_ACTION: u32 = 115;
 
-// How many of the entries that were added last have their ids remembered.
-const REMEMBERED: usize = 8192;
-
 // The answer to a serial that is not above the connection's last one.
-pub fn judged_by_serial(
-    outcomes: &BTreeMap<u32, (u64, Outcome)>,
-    conn: ConnNo,
-    serial: u64,
-) -> Option<Verdict>
-    ensures { result ≡ settled_by_serial serial (lookup (is_at (nat_cmp conn)) outcomes.now.entries) }
+pub fn judged_by_serial(last: Option<(u64, Outcome)>, serial: u64) -> Option<Verdict>
+    ensures { result ≡ settled_by_serial serial last }
 {
-    let last = outcomes.get(&conn.0)?;
-    if serial < last.0 {
+    let (before, outcome) = last?;
+    if serial < before {
         Some(Verdict::Old)
-    } else if serial == last.0 {
-        Some(Verdict::Done(last.1))
+    } else if serial == before {
+        Some(Verdict::Done(outcome))
     } else {
         None
     }
@@ -147,9 +135,9 @@ fn lacks_client(items: &[PresenceItem]) -> bool
     items.iter().any(|item| has_no_client(item))
 }
 
-// The code of the first rule on its own kind that a body fails.
-fn failed_rule(body: &Body) -> Option<u32>
-    ensures { result ≡ failed_rule body.now }
+// The code of the first rule that a body fails by itself.
+fn own_rule(body: &Body) -> Option<u32>
+    ensures { result ≡ own_rule body.now }
 {
     match body {
         Body::Messages(items) => {
@@ -173,43 +161,13 @@ fn failed_rule(body: &Body) -> Option<u32>
 
 // The answer to a body that some rule refuses: the code of the first rule that it fails.
 pub fn judged_by_rules(head: u64, body: &Body) -> Option<Verdict>
-    ensures { result ≡ settled head (judged_by_rules head body.now) }
+    ensures { result ≡ settled head (judged_by_rules head body.now Adds) }
 {
     if weight(body) > 65_536 || has_long(body) {
         Some(Verdict::Done(Outcome::Refused(TOO_LONG)))
     } else if head == u64::MAX - 1 {
         Some(Verdict::Done(Outcome::Refused(LOG_FULL)))
     } else {
-        failed_rule(body).map(|code| Verdict::Done(Outcome::Refused(code)))
+        own_rule(body).map(|code| Verdict::Done(Outcome::Refused(code)))
     }
-}
-
-fn was_given(one: &Remembered, id: &Text) -> bool
-    ensures { result ≡ has_given id.now one.now }
-{
-    match &one.id {
-        Some(other) => id.same(other),
-        None => false,
-    }
-}
-
-// The place of the last of these whose put gave this id.
-fn last_place(given: &[Remembered], id: &Text) -> Option<Place>
-    ensures { result ≡ found_place id.now (reverse given.now) }
-{
-    let mut found = None;
-    for one in given {
-        if was_given(one, id) {
-            found = Some(one.place);
-        }
-    }
-    found
-}
-
-// The place of the entry, among the last ones, whose put gave this id.
-pub fn remembered(given: &[Remembered], id: &Text) -> Option<Place>
-    ensures { result ≡ found_place id.now (take 8192 (reverse given.now)) }
-{
-    let from = given.len().saturating_sub(REMEMBERED);
-    last_place(&given[from..], id)
 }

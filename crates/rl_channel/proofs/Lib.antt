@@ -1,0 +1,5 @@
+pub mod Items
+pub mod Parts
+pub mod PresenceItems
+pub mod Rules
+pub mod Told

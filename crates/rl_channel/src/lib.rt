@@ -1,0 +1,5 @@
+//! A channel: a machine that keeps a bounded part of what it took, and answers as its whole history says.
+#![tactic(auto)]
+
+mod filling;
+mod judging;

@@ -1,6 +1,0 @@
-pub mod Ids
-pub mod Items
-pub mod PresenceItems
-pub mod Settled
-pub mod Outcomes
-pub mod Past
