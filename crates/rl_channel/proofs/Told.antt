@@ -1,5 +1,5 @@
 -- The presence items of a log with one more entry, and the limit of members.
-use Rattle.std.proofs.Common.{◌≡◌, ℕ, suc, ◌+◌, Bool, true, false, cond, List, [], ◌∷◌, ◌++◌, length, reverse, map, refl, ap, sym, ◌∙◌, ◌||◌}
+use Rattle.std.proofs.Common.{◌≡◌, ℕ, suc, ◌+◌, Bool, true, false, cond, List, [], ◌∷◌, ◌++◌, length, reverse, map, refl, ap, sym, ◌∙◌, ◌||◌, ◌<◌, ◌≤◌, arith}
 use Rattle.std.specs.Prelude.{Option, Some, None, is_some, nat_lt, find, filter_map, option_and_then, bytes_eq, ◌&&◌}
 use Rattle.std.specs.List.{cons_option}
 use Rattle.std.specs.Ordering.{match_ordering}
@@ -8,6 +8,7 @@ use Rattle.rl_ids.specs.Forms.{conn_text}
 use Rattle.rl_ids.specs.declared.members.MemberKey.{MemberKey}
 use Rattle.rl_types.specs.declared.presence.PresenceItem.{PresenceItem}
 use Rattle.rl_types.specs.declared.messages.Entry.{Entry}
+use Rattle.rl_channel.specs.Changes.{IsAfter}
 use Rattle.rl_model.specs.Texts.{made_id}
 use Rattle.rl_model.specs.Ids.{filled_presence}
 use Rattle.rl_model.specs.Members.{key_of, key_cmp, is_of, with_key, keys_in, enters, if_enters, member, members_of, presence_of, items_of, has_too_many, told_by}
@@ -139,3 +140,25 @@ too_many_early latest (item ∷ items) rest h = by_test (nat_lt 2000 (length (me
         → (test || has_too_many (item ∷ latest) (items ++ rest)) ≡ true
     by_test true h more = refl
     by_test false h more = more h
+
+-- the members after one more item, where at most 2,000 stand
+pub after_more : (latest items : List PresenceItem) (item : PresenceItem) (after new : List PresenceItem)
+    → IsAfter latest items (Some after) → (after ≡ members_of (reverse items ++ latest) → new ≡ members_of (item ∷ (reverse items ++ latest)))
+    → length new ≤ 2000 → IsAfter latest (items ++ item ∷ []) (Some new)
+after_more latest items item after new is step few =
+    let made = step is.0 in
+    let within : nat_lt 2000 (length (members_of (item ∷ (reverse items ++ latest)))) ≡ false = rw (← made) (grind arith) in
+    (
+      made ∙ ap (λ (l : List PresenceItem). members_of (l ++ latest)) (sym (reverse-append items (item ∷ []))),
+      too_many_more latest items item ∙ ap (λ (b : Bool). b || nat_lt 2000 (length (members_of (item ∷ (reverse items ++ latest))))) is.1 ∙ within,
+    )
+
+-- more than 2,000 stand after one more item, and so after some of the whole
+pub after_too_many : (latest items rest : List PresenceItem) (item : PresenceItem) (after new : List PresenceItem)
+    → IsAfter latest items (Some after) → (after ≡ members_of (reverse items ++ latest) → new ≡ members_of (item ∷ (reverse items ++ latest)))
+    → 2000 < length new → has_too_many latest ((items ++ item ∷ []) ++ rest) ≡ true
+after_too_many latest items rest item after new is step many =
+    let made = step is.0 in
+    let passed : nat_lt 2000 (length (members_of (item ∷ (reverse items ++ latest)))) ≡ true = rw (← made) (grind arith) in
+    too_many_early latest (items ++ item ∷ []) rest
+    (too_many_more latest items item ∙ ap (λ (b : Bool). b || nat_lt 2000 (length (members_of (item ∷ (reverse items ++ latest))))) is.1 ∙ passed)

@@ -1,5 +1,6 @@
 //! A channel: a machine that keeps a bounded part of what it took, and answers as its whole history says.
 #![tactic(auto)]
 
+mod changes;
 mod filling;
 mod judging;

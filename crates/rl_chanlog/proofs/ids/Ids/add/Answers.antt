@@ -1,0 +1,12 @@
+use Rattle.std.proofs.Common.{rules, ◌≡◌, ◌+◌, ◌-◌, ◌<◌, ◌≤◌, [], ◌∷◌, List, OnOk, ℕ, ◌*◌, length, ◌/◌, ◌%◌, Bool, true, false, nat_eq, nat_lt, ◌++◌, slice_index_or, slice_set, bit_and, bit_or, Fits, w8, w32, w64, Bor, MutBor}
+use Rattle.rl_model.specs.Verdict.{Added}
+use Rattle.rl_chanlog.specs.Ids.{KeepsIds, remembered_at}
+use Rattle.rl_chanlog.proofs.ids.Ids.add.Goals as goal
+
+-- src/ids.rt:71:5
+pub returns-in-Some : goal.returns-in-Some
+returns-in-Some c = ?
+
+-- src/ids.rt:71:5
+pub returns-in_default : goal.returns-in_default
+returns-in_default c = ?

@@ -1,0 +1,58 @@
+// What a put of presence makes of the members.
+ghost use Rattle.std.specs.Prelude.{◌≡◌, ◌∷◌, List, IfOk, OnOk};
+ghost use Rattle.rl_types.specs.declared.presence.PresenceItem.{PresenceItem};
+ghost use Rattle.rl_model.specs.Members.{enters, key_of, members_of};
+ghost use Rattle.rl_channel.specs.Changes.{IsAfter};
+
+use rl_ids::{Copied, MemberKey, NoMemory};
+use rl_members::Members;
+use rl_types::{PresenceAction, PresenceItem};
+use std::alloc::Global;
+
+// The most members that stand.
+const MOST_MEMBERS: usize = 2000;
+
+fn enters(action: PresenceAction) -> bool
+    ensures { result ≡ enters action }
+{
+    matches!(action, PresenceAction::Enter | PresenceAction::Update)
+}
+
+fn key_of(alloc: Global, item: &PresenceItem) -> Result<MemberKey, NoMemory>
+    ensures { IfOk result (λ key. key ≡ key_of item.now) }
+{
+    Ok(MemberKey {
+        conn: item.conn.copy(alloc)?,
+        client: item.client.copy(alloc)?,
+    })
+}
+
+// The members after one more item.
+fn take_item(alloc: Global, members: &mut Members, item: &PresenceItem) -> Result<(), NoMemory>
+    ensures { OnOk result ((latest : List PresenceItem) → members.old ≡ members_of latest → members.new ≡ members_of (item.now ∷ latest)) }
+{
+    if enters(item.action) {
+        return members.enter(alloc, item);
+    }
+    let key = key_of(alloc, item)?;
+    members.leave(&key);
+    Ok(())
+}
+
+// The members after these items, one after another; none where more than 2,000 stand after some of them.
+pub fn members_after(
+    alloc: Global,
+    members: &Members,
+    items: &[PresenceItem],
+) -> Result<Option<Members>, NoMemory>
+    ensures { IfOk result (λ after. (latest : List PresenceItem) → members.now ≡ members_of latest → IsAfter latest items.now after) }
+{
+    let mut after = members.copy(alloc)?;
+    for item in items {
+        take_item(alloc, &mut after, item)?;
+        if after.count() > MOST_MEMBERS {
+            return Ok(None);
+        }
+    }
+    Ok(Some(after))
+}

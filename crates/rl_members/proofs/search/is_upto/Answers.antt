@@ -1,0 +1,7 @@
+use Rattle.std.proofs.Common.{rules, ap, ◌∙◌}
+use Rattle.std.specs.Prelude.{not}
+use Rattle.rl_members.proofs.Keys.{upto_turned}
+use Rattle.rl_members.proofs.search.is_upto.Goals as goal
+
+pub returns : goal.returns
+returns c = let h = upto_turned c.args.key.now c.args.item.now in cc
