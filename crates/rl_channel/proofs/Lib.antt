@@ -1,4 +1,5 @@
 pub mod Items
+pub mod Left
 pub mod Parts
 pub mod PresenceItems
 pub mod Rules

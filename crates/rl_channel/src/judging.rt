@@ -1,12 +1,12 @@
 // How a put is decided, rule by rule, up to the limit of members. An answer is given where a rule decides.
-ghost use Rattle.std.specs.Prelude.{◌≡◌};
+ghost use Rattle.std.specs.Prelude.{◌≡◌, ◌≢◌, ◌^◌, ◌-◌, None};
 ghost use Rattle.std.specs.List.{list_all, list_any};
 ghost use Rattle.rl_types.specs.Weight.{option_len};
 ghost use Rattle.rl_model.specs.Ids.{has_id, has_long, has_mixed_ids, is_long_id, is_long_presence};
 ghost use Rattle.rl_model.specs.Verdict.{Adds, has_no_client, is_bad_action, judged_by_rules, own_rule};
-ghost use Rattle.rl_channel.specs.Steps.{settled, settled_by_serial};
+ghost use Rattle.rl_channel.specs.Steps.{early, settled, settled_by_serial};
 
-use rl_ids::Text;
+use rl_ids::{Place, Text};
 use rl_types::{Body, Item, Outcome, PresenceAction, PresenceItem, Verdict, weight};
 
 // 104: the body is too long, or an id, or another text of it.
@@ -25,7 +25,7 @@ const NO_CLIENT_ID: u32 = 114;
 const BAD_ACTION: u32 = 115;
 
 // The answer to a serial that is not above the connection's last one.
-pub fn judged_by_serial(last: Option<(u64, Outcome)>, serial: u64) -> Option<Verdict>
+fn judged_by_serial(last: Option<(u64, Outcome)>, serial: u64) -> Option<Verdict>
     ensures { result ≡ settled_by_serial serial last }
 {
     let (before, outcome) = last?;
@@ -160,8 +160,9 @@ fn own_rule(body: &Body) -> Option<u32>
 }
 
 // The answer to a body that some rule refuses: the code of the first rule that it fails.
-pub fn judged_by_rules(head: u64, body: &Body) -> Option<Verdict>
-    ensures { result ≡ settled head (judged_by_rules head body.now Adds) }
+fn judged_by_rules(head: u64, body: &Body) -> Option<Verdict>
+    ensures value { result ≡ settled head (judged_by_rules head body.now Adds) }
+    ensures open { result ≡ None → head ≢ 2 ^ 64 - 2 }
 {
     if weight(body) > 65_536 || has_long(body) {
         Some(Verdict::Done(Outcome::Refused(TOO_LONG)))
@@ -169,5 +170,27 @@ pub fn judged_by_rules(head: u64, body: &Body) -> Option<Verdict>
         Some(Verdict::Done(Outcome::Refused(LOG_FULL)))
     } else {
         own_rule(body).map(|code| Verdict::Done(Outcome::Refused(code)))
+    }
+}
+
+// The answer to a put that a rule before the limit of members decides, by what its connection put last, by the
+// place at which its id is remembered, and by the head.
+pub fn judged_early(
+    last: Option<(u64, Outcome)>,
+    found: Option<Place>,
+    head: u64,
+    serial: u64,
+    body: &Body,
+) -> Option<Verdict>
+    ensures value { result ≡ settled head (early serial last found head body.now Adds) }
+    ensures open { result ≡ None → head ≢ 2 ^ 64 - 2 }
+{
+    let answer = judged_by_serial(last, serial);
+    if answer.is_some() {
+        return answer;
+    }
+    match found {
+        Some(place) => Some(Verdict::Done(Outcome::Taken(place))),
+        None => judged_by_rules(head, body),
     }
 }

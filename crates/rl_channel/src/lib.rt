@@ -4,3 +4,4 @@
 mod changes;
 mod filling;
 mod judging;
+mod leaving;
