@@ -1,6 +1,6 @@
 -- Ends of a log that pass a test.
 use Rattle.std.proofs.Common.{◌≡◌, ℕ, suc, ◌+◌, ◌-◌, ◌≤◌, Bool, true, false, List, [], ◌∷◌, ◌++◌, length, drop, refl, ap, sym, ◌∙◌, arith, length-append, length-drop}
-use Rattle.std.specs.Prelude.{sum_by, nat_le, ◌&&◌, if◌then◌else◌}
+use Rattle.std.specs.Prelude.{◌&&◌, if◌then◌else◌}
 use Rattle.std.specs.List.{list_all}
 use Rattle.std.proofs.lemmas.List.{drop-drop, drop-append-le}
 use Rattle.std.proofs.lemmas.List.Sums.{sum_by-cons}
@@ -8,7 +8,7 @@ use Rattle.std.proofs.Math.Seq.{drop-nil}
 use Rattle.std.proofs.lemmas.Grind.{common_steps}
 use Rattle.rl_types.specs.declared.messages.Entry.{Entry}
 use Rattle.rl_model.specs.Window.{entry_weight, fits, fits_at, is_young, least_place, first_after}
-use Rattle.rl_chanlog.specs.Window.{WindowView, KeepsWindow, IsWindow, RiseTo, narrowed, young_from}
+use Rattle.rl_chanlog.specs.Window.{WindowView, KeepsWindow, RiseTo, narrowed, young_from}
 
 -- STEPS OF THE FIRST PLACE
 
@@ -84,7 +84,7 @@ all_young now low newest (entry ∷ window) rise young =
     let rest = all_young now entry.stamp newest window rise.1 (omega (arith, here, young)) in
     grind (arith, common_steps, rest, here, young)
 
-fits_rest : (entry : Entry) (window : List Entry) → fits (entry ∷ window) ≡ true → fits window ≡ true
+pub fits_rest : (entry : Entry) (window : List Entry) → fits (entry ∷ window) ≡ true → fits window ≡ true
 fits_rest entry window all = let weighs = sum_by-cons entry_weight entry window in grind (arith, common_steps, all, weighs)
 
 lower : (low lower newest : ℕ) (window : List Entry) → lower ≤ low → RiseTo low window newest → RiseTo lower window newest
@@ -107,11 +107,11 @@ narrowed_is_young now low newest (entry ∷ window) rise small = by_test (is_you
 
 -- WHAT STAYS TRUE
 
-rise_on : (low newest : ℕ) (window : List Entry) (entry : Entry) → newest ≤ entry.stamp → RiseTo low window newest → RiseTo low (window ++ entry ∷ []) entry.stamp
+pub rise_on : (low newest : ℕ) (window : List Entry) (entry : Entry) → newest ≤ entry.stamp → RiseTo low window newest → RiseTo low (window ++ entry ∷ []) entry.stamp
 rise_on low newest [] entry later rise = (omega (arith, later, rise), omega arith)
 rise_on low newest (first ∷ window) entry later rise = (rise.0, rise_on first.stamp newest window entry later rise.1)
 
-rise_narrowed : (test : List Entry → Bool) (low newest : ℕ) (window : List Entry) → RiseTo low window newest → RiseTo low (narrowed test window) newest
+pub rise_narrowed : (test : List Entry → Bool) (low newest : ℕ) (window : List Entry) → RiseTo low window newest → RiseTo low (narrowed test window) newest
 rise_narrowed test low newest [] rise = rise
 rise_narrowed test low newest (entry ∷ window) rise = by_test (test (entry ∷ window)) (rise_narrowed test low newest window (lower entry.stamp low newest window rise.0 rise.1))
   where

@@ -1,17 +1,15 @@
 -- Places of ids.
-use Rattle.std.proofs.Common.{◌≡◌, ℕ, zero, suc, ◌+◌, ◌-◌, ◌≤◌, Bool, true, false, cond, List, [], ◌∷◌, ◌++◌, length, take, drop, refl, ap, sym, ◌∙◌, arith}
-use Rattle.std.specs.Prelude.{Option, Some, None, IfSome, option_map, find, nat_lt, if◌then◌else◌, bytes_eq, string_bytes, map, String}
+use Rattle.std.proofs.Common.{◌≡◌, ℕ, zero, suc, ◌+◌, ◌-◌, ◌≤◌, Bool, true, false, cond, List, [], ◌∷◌, take, drop, refl, ap, sym, ◌∙◌, arith}
+use Rattle.std.specs.Prelude.{IsOk, OnOk, Option, Some, None, Result, Ok, Err, option_map, find, nat_lt, bytes_eq, string_bytes, String}
 use Rattle.std.specs.String.{string_eq}
 use Rattle.std.specs.Global.{Global}
 use Rattle.std.specs.HashMap.{HashMap, Updates, get, get_by_text}
 use Rattle.std.specs.Map.{lookup}
-use Rattle.std.specs.List.{slice_get}
-use Rattle.std.proofs.Math.Seq.{drop-nil, take-nil}
+use Rattle.std.proofs.Math.Seq.{take-nil}
 use Rattle.std.proofs.lemmas.Map.Entries.{place_from_lookup}
 use Rattle.std.proofs.lemmas.Map.Text.{is_text, hash_map_text_same, hash_map_updates_text}
 use Rattle.std.proofs.lemmas.Grind.{common_steps}
 use Rattle.std.proofs.lemmas.Slice.Eq.{bytes_eq-Decides}
-use Rattle.rl_model.specs.Verdict as model
 use Rattle.rl_model.specs.Verdict.{Added, has_given}
 use Rattle.rl_chanlog.specs.Ids.{IdsView, KeepsIds, CountDown, texts_of, place_in, latest, if_near, or_earlier, remembered_at}
 
@@ -42,18 +40,10 @@ latest_split id (suc n) m (one ∷ added) =
     ∙ ap (λ (k : ℕ). latest id (take k (one ∷ added))) more
 
 -- no place is above the head
-below_head : (id : List ℕ) (head place : ℕ) (added : List Added) → CountDown head added → latest id added ≡ Some place → place ≤ head
-below_head id head place [] down is = cc
-below_head id head place (one ∷ added) down is = by_test (has_given id one) (sym (latest_next id one added) ∙ is) (below_head id (head - 1) place added down.2)
-  where
-    by_test : (given : Bool) → cond given (Some one.place) (latest id added) ≡ Some place → (latest id added ≡ Some place → place ≤ head - 1) → place ≤ head
-    by_test true same rest = let at : one.place ≡ place = cc in let here = down.0 in omega (arith, at, here)
-    by_test false same rest = let less = rest same in omega (arith, less)
-
-count_down_taken : (k head : ℕ) (id : List ℕ) (place : ℕ) (added : List Added) → CountDown head added → latest id (take k added) ≡ Some place → place ≤ head
-count_down_taken zero head id place added down is = cc
-count_down_taken (suc k) head id place [] down is = cc
-count_down_taken (suc k) head id place (one ∷ added) down is = by_test (has_given id one) (sym (latest_next id one (take k added)) ∙ is) (count_down_taken k (head - 1) id place added down.2)
+taken_below : (k head : ℕ) (id : List ℕ) (place : ℕ) (added : List Added) → CountDown head added → latest id (take k added) ≡ Some place → place ≤ head
+taken_below zero head id place added down is = cc
+taken_below (suc k) head id place [] down is = cc
+taken_below (suc k) head id place (one ∷ added) down is = by_test (has_given id one) (sym (latest_next id one (take k added)) ∙ is) (taken_below k (head - 1) id place added down.2)
   where
     by_test : (given : Bool) → cond given (Some one.place) (latest id (take k added)) ≡ Some place → (latest id (take k added) ≡ Some place → place ≤ head - 1) → place ≤ head
     by_test true same rest = let at : one.place ≡ place = cc in let here = down.0 in omega (arith, at, here)
@@ -86,7 +76,7 @@ latest_near (suc k) (suc m) head id (one ∷ added) less down =
   where
     by_test : (given : Bool) → if_near k (head - 1) (latest id (take m added)) ≡ latest id (take k added) → if_near (suc k) head (cond given (Some one.place) (latest id (take m added))) ≡ cond given (Some one.place) (latest id (take k added))
     by_test true rest = near_here k head one.place down.0
-    by_test false rest = near_more k head (latest id (take m added)) (λ place is. count_down_taken m (head - 1) id place added down.2 is) down.1 ∙ rest
+    by_test false rest = near_more k head (latest id (take m added)) (λ place is. taken_below m (head - 1) id place added down.2 is) down.1 ∙ rest
 
 -- WHAT IS FOUND
 
@@ -143,7 +133,6 @@ pub text_found : {Y : Type 0} (id : List ℕ) (entries : List (String Y × ℕ))
 text_found id [] = refl
 text_found id (entry ∷ entries) = ap (cond (bytes_eq id (string_bytes entry.0)) (Some entry.1)) (text_found id entries)
 
-
 module _ {S : Type 0} (m n : HashMap (String Global) ℕ S) (same : (key : String Global) → get string_eq n key ≡ get string_eq m key) where
   -- a text that is a key of one of the maps finds the same in both
   text_at : (id : List ℕ) (key : String Global) → is_text id key ≡ true → get_by_text n id ≡ get_by_text m id
@@ -174,3 +163,12 @@ put_places m n key place puts id =
     ∙ hash_map_updates_text (string_bytes key) m n (Some place) puts id
     ∙ ap (λ (b : Bool). cond b (Some place) (get_by_text m id)) (bytes_eq_turned (string_bytes key) id)
     ∙ ap (cond (bytes_eq id (string_bytes key)) (Some place)) (sym (text_found id m.entries))
+
+on_ok : {A E P : Type 0} (result : Result A E) → IsOk result → OnOk result P → P
+on_ok (Ok value) ok there = there
+on_ok (Err error) ok there = cc
+
+-- the ids of a map after one was put in, where there was room
+pub room_places : {A E S : Type 0} (result : Result A E) (m n : HashMap (String Global) ℕ S) (key : String Global) (text : List ℕ) (place : ℕ) → IsOk result → OnOk result (Updates string_eq m n key (Some place)) → string_bytes key ≡ text → (id : List ℕ) → place_in id (texts_of n.entries) ≡ cond (bytes_eq id text) (Some place) (place_in id (texts_of m.entries))
+room_places result m n key text place ok puts is id =
+    put_places m n key place (on_ok result ok puts) id ∙ ap (λ (t : List ℕ). cond (bytes_eq id t) (Some place) (place_in id (texts_of m.entries))) is

@@ -1,5 +1,5 @@
 -- The ids that are remembered.
-use Rattle.std.specs.Prelude.{◌≡◌, ℕ, ◌+◌, ◌-◌, ◌≤◌, Bool, if◌then◌else◌, nat_lt, ⊤, List, [], ◌∷◌, length, map, take, drop, find, Option, Some, None, option_map, bytes_eq, string_bytes, String}
+use Rattle.std.specs.Prelude.{◌≡◌, ℕ, ◌-◌, ◌≤◌, if◌then◌else◌, nat_lt, List, [], ◌∷◌, map, take, drop, find, Option, Some, None, option_map, bytes_eq, string_bytes, String}
 use Rattle.std.specs.Map.{lookup}
 use Rattle.rl_model.specs.Verdict.{Added, has_given}
 

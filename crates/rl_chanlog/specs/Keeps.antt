@@ -1,5 +1,5 @@
 -- What a channel's log stands for.
-use Rattle.std.specs.Prelude.{◌≡◌, ℕ, ◌≤◌, length}
+use Rattle.std.specs.Prelude.{◌≡◌, ℕ, length}
 use Rattle.rl_model.specs.Parts.{Parts}
 use Rattle.rl_chanlog.specs.Window.{WindowView, KeepsWindow}
 use Rattle.rl_chanlog.specs.Ids.{IdsView, KeepsIds, CountDown}

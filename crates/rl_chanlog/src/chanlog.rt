@@ -34,7 +34,7 @@ impl Model for ChanLog {
 }
 
 impl ChanLog {
-    /// The log of a channel that took nothing yet.
+    /// The log of a channel that took nothing yet. `NoMemory` comes where memory is wanted.
     pub fn new(alloc: Global) -> Result<ChanLog, NoMemory>
         ensures { IfOk result (λ log. Keeps log (parts_of []) × (log.newest ≡ 0)) }
     {
@@ -45,7 +45,8 @@ impl ChanLog {
         })
     }
 
-    /// Takes the memory that one `add` of this entry wants. After `NoMemory` the log stands for what it did.
+    /// Takes the memory that one `add` of this entry wants. Once in 8,192 entries it drops the ids that are not
+    /// remembered any more. After `NoMemory` the log stands for what it did.
     pub fn reserve(&mut self, alloc: Global, _entry: &Entry) -> Result<(), NoMemory>
         ensures same { (parts : Parts) → Keeps self.old parts → Keeps self.new parts }
         ensures room { OnOk result (0 < self.new.room) }
@@ -72,15 +73,14 @@ impl ChanLog {
         self.window.add(entry);
     }
 
-    /// Takes the memory that the next `consume` of this connection wants. After `NoMemory` the log stands for
-    /// what it did.
+    /// Takes the memory that the next `consume` of this connection wants: none where an outcome of it is kept.
+    /// After `NoMemory` the log stands for what it did.
     pub fn ready(&mut self, conn: ConnNo) -> Result<(), NoMemory>
         ensures same { (parts : Parts) → Keeps self.old parts → Keeps self.new parts }
         ensures ready { OnOk result (IsReady conn self.new) }
         ensures kept { (self.new.newest ≡ self.old.newest) × (self.new.head ≡ self.old.head) × (self.new.room ≡ self.old.room) }
     {
-        let _ = conn;
-        self.outcomes.reserve()
+        self.outcomes.ready(conn.0)
     }
 
     /// Keeps the outcome of a connection's last serial, in the place of the one before (RTN19a2). It takes no
@@ -95,8 +95,8 @@ impl ChanLog {
     }
 
     /// Copies of the first entries after a place, at most `max` of them; or `NotRetained` with the first place,
-    /// exactly where the entries after the place are not all retained or the place is past the head. It costs
-    /// what it gives.
+    /// exactly where the entries after the place are not all retained or the place is past the head (RTL15, and
+    /// this project's own). It costs what it gives. `NoMemory` comes where the copies do not fit.
     pub fn read(&self, alloc: Global, from: Place, max: usize) -> Result<ReadReply, NoMemory>
         ensures { IfOk result (λ reply. (parts : Parts) → Keeps self.now parts → reply ≡ read_in parts from max) }
     {
@@ -122,6 +122,7 @@ impl ChanLog {
     pub fn head(&self) -> Place
         ensures value { (parts : Parts) → Keeps self.now parts → result ≡ length parts.log }
         ensures head { result ≡ self.now.head }
+        ensures limit { result ≤ 2 ^ 64 - 2 }
     {
         Place(self.window.head())
     }

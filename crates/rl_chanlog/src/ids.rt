@@ -1,7 +1,8 @@
 // The ids that are remembered.
-ghost use Rattle.std.specs.Prelude.{◌≡◌, ◌+◌, ◌-◌, ◌<◌, ◌≤◌, [], ◌∷◌, List, OnOk};
+ghost use Rattle.std.specs.Prelude.{◌≡◌, ◌+◌, ◌-◌, ◌<◌, ◌≤◌, [], ◌∷◌, ℕ, List, OnOk, Some, bytes_eq, if◌then◌else◌};
+ghost use Rattle.std.specs.HashMap.{spare};
 ghost use Rattle.rl_model.specs.Verdict.{Added};
-ghost use Rattle.rl_chanlog.specs.Ids.{KeepsIds, remembered_at};
+ghost use Rattle.rl_chanlog.specs.Ids.{KeepsIds, or_earlier, place_in, remembered_at, texts_of};
 
 use rl_ids::{NoMemory, Place, Text};
 use std::alloc::Global;
@@ -75,7 +76,7 @@ impl Ids {
     {
         self.count += 1;
         if let Some(id) = id {
-            let _ = self.recent.insert(id.into_string(), place);
+            put(&mut self.recent, id, place);
         }
     }
 
@@ -83,14 +84,36 @@ impl Ids {
     pub fn place_of(&self, id: &str, head: u64) -> Option<Place>
         ensures { result ≡ remembered_at head id.now self.now }
     {
-        let place = match self.recent.get(id) {
-            Some(place) => *place,
-            None => *self.earlier.get(id)?,
-        };
-        if head.saturating_sub(place) < MOST_IDS {
-            Some(Place(place))
-        } else {
-            None
+        match self.find(id) {
+            Some(place) if head.saturating_sub(place) < MOST_IDS => Some(Place(place)),
+            _ => None,
         }
     }
+
+    // The place of the latest entry that was given this id, among those whose ids are held.
+    fn find(&self, id: &str) -> Option<u64>
+        ensures { result ≡ or_earlier (place_in id.now self.now.recent) (place_in id.now self.now.earlier) }
+    {
+        match look_up(&self.recent, id) {
+            Some(place) => Some(place),
+            None => look_up(&self.earlier, id),
+        }
+    }
+}
+
+// The place at which an id stands.
+#[tactic(auto, using(crate::proofs::Places::text_found))]
+fn look_up(ids: &HashMap<String, u64>, id: &str) -> Option<u64>
+    ensures { result ≡ place_in id.now (texts_of ids.now.entries) }
+{
+    ids.get(id).copied()
+}
+
+// Puts the place of an id in. It takes no memory.
+fn put(ids: &mut HashMap<String, u64>, id: Text, place: u64)
+    requires { 0 < spare ids.old }
+    ensures { (text : List ℕ) → place_in text (texts_of ids.new.entries) ≡ (if bytes_eq text id then Some place else place_in text (texts_of ids.old.entries)) }
+{
+    // There is a spare place, so it succeeds.
+    let _ = ids.insert(id.into_string(), place);
 }

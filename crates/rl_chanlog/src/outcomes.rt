@@ -33,11 +33,14 @@ impl Outcomes {
         }
     }
 
-    // Makes room for one more connection.
-    pub fn reserve(&mut self) -> Result<(), NoMemory>
-        ensures same { (conn : ℕ) → outcome_in conn self.new ≡ outcome_in conn self.old }
-        ensures room { OnOk result (0 < self.new.spare) }
+    // Makes room for the connection, where it is not there.
+    pub fn ready(&mut self, conn: u32) -> Result<(), NoMemory>
+        ensures same { (other : ℕ) → outcome_in other self.new ≡ outcome_in other self.old }
+        ensures ready { OnOk result (IsSpareFor conn self.new) }
     {
+        if self.last.contains_key(&conn) {
+            return Ok(());
+        }
         self.last.reserve(1)?;
         Ok(())
     }

@@ -96,13 +96,13 @@ impl Window {
         ensures value { result ≡ length self.now.entries }
         ensures limit { result ≤ 4096 }
     {
-        let _ = &self.weight;
         self.entries.len()
     }
 
     // The place of the last entry of the log.
     pub fn head(&self) -> u64
-        ensures { result ≡ self.now.head }
+        ensures value { result ≡ self.now.head }
+        ensures limit { result ≤ 2 ^ 64 - 2 }
     {
         self.head
     }
@@ -122,8 +122,8 @@ impl Window {
     {
         let count = (self.entries.len() - from).min(max);
         let mut run = List::new(alloc);
-        for at in from..from + count {
-            run.push(self.entries[at].copy(alloc)?)?;
+        for at in 0..count {
+            run.push(self.entries[from + at].copy(alloc)?)?;
         }
         Ok(run)
     }

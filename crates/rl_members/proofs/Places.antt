@@ -199,12 +199,12 @@ any_first key p ps h = rw h refl
 any_more : (key : MemberKey) (p : PresenceItem) (ps : List PresenceItem) → is_of key p ≡ false → list_any (is_of key) (p ∷ ps) ≡ list_any (is_of key) ps
 any_more key p ps h = rw h refl
 
-pub held_any : (key : MemberKey) (items : List PresenceItem) (at : ℕ) → IsHeldAt key items at → list_any (is_of key) items ≡ true
-held_any key [] at h = absurd (omega (arith, h.within))
-held_any key (p ∷ ps) zero h = any_first key p ps (h.same p)
-held_any key (p ∷ ps) (suc at) h =
+pub held_here : (key : MemberKey) (items : List PresenceItem) (at : ℕ) → IsHeldAt key items at → list_any (is_of key) items ≡ true
+held_here key [] at h = absurd (omega (arith, h.within))
+held_here key (p ∷ ps) zero h = any_first key p ps (h.same p)
+held_here key (p ∷ ps) (suc at) h =
     any_more key p ps (of_greater key p (before_place key p (h.place.below 0 p (omega arith) (omega arith))))
-    ∙ held_any key ps at (held_inside key p ps at h)
+    ∙ held_here key ps at (held_inside key p ps at h)
 
 none_later : (key : MemberKey) (items : List PresenceItem) → AllLater key items → list_any (is_of key) items ≡ false
 none_later key [] all = refl

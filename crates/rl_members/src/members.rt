@@ -6,7 +6,7 @@ ghost use Rattle.rl_members.specs.Held.{with_member};
 ghost use Rattle.rl_types.specs.declared.presence.PresenceItem.{PresenceItem};
 
 use crate::page::{clients_on, first_present, is_on};
-use crate::search::{find, past};
+use crate::search::{past, put, take_out};
 use rl_ids::{Copied, List, MemberKey, NoMemory, Text};
 use rl_types::PresenceItem;
 use std::alloc::Global;
@@ -50,17 +50,13 @@ impl Members {
     ///
     /// Where the members were those that a channel's items leave, they are now those that these and this one leave;
     /// this is told of an item that enters. `NoMemory` leaves them as before.
+    #[tactic(auto, using(crate::proofs::Calls::enter_members))]
     pub fn enter(&mut self, alloc: Global, item: &PresenceItem) -> Result<(), NoMemory>
         ensures step { OnOk result (self.new ≡ with_member item.now self.old) }
         ensures members { OnOk result ((latest : List PresenceItem) → enters item.now.action ≡ true → self.old ≡ members_of latest → self.new ≡ members_of (item.now ∷ latest)) }
         ensures err { OnErr result (self.new ≡ self.old) }
     {
-        let copy = item.copy(alloc)?;
-        match find(self.items.as_slice(), &item.conn, &item.client) {
-            Ok(at) => self.items.set(at, copy),
-            Err(at) => self.items.insert(at, copy)?,
-        }
-        Ok(())
+        put(&mut self.items, item.copy(alloc)?)
     }
 
     /// Takes the key's member away (RTP2e). It takes no memory, and answers whether there was one.
@@ -72,13 +68,7 @@ impl Members {
         ensures left { self.new ≡ filter (λ item. not (is_of key.now item)) self.old }
         ensures members { (latest : List PresenceItem) → (item : PresenceItem) → enters item.action ≡ false → key_of item ≡ key.now → self.old ≡ members_of latest → self.new ≡ members_of (item ∷ latest) }
     {
-        match find(self.items.as_slice(), &key.conn, &key.client) {
-            Ok(at) => {
-                self.items.remove(at);
-                true
-            }
-            Err(_) => false,
-        }
+        take_out(&mut self.items, key)
     }
 
     /// Takes all members of a connection away, and answers their client ids in order. (That they leave together when
@@ -96,6 +86,13 @@ impl Members {
         let clients = clients_on(alloc, self.items.as_slice(), conn)?;
         self.items.retain(|item| !is_on(item, conn));
         Ok(clients)
+    }
+
+    /// The client ids of a connection's members, in order: those that would leave with it.
+    pub fn on(&self, alloc: Global, conn: &str) -> Result<List<Text>, NoMemory>
+        ensures { IfOk result (λ clients. clients ≡ map (λ item. item.client) (filter (is_on conn.now) self.now)) }
+    {
+        clients_on(alloc, self.items.as_slice(), conn)
     }
 
     /// A page of the members (RTP18): the first of those past a key, at most `max`, as PRESENT, and whether none

@@ -1,9 +1,10 @@
-ghost use Rattle.std.specs.Prelude.{◌≡◌, ◌<◌, ◌≤◌, length, MatchResult};
+ghost use Rattle.std.specs.Prelude.{◌≡◌, ◌<◌, ◌≤◌, length, not, filter, MatchResult, OnOk, OnErr};
+ghost use Rattle.std.specs.List.{list_any};
 ghost use Rattle.std.specs.Option.{option_copied};
 ghost use Rattle.rl_model.specs.Members.{key_of, key_cmp, is_of, members_past};
-ghost use Rattle.rl_members.specs.Held.{key_at, is_before, is_upto, IsRising, IsPlace, FindsPlace};
+ghost use Rattle.rl_members.specs.Held.{with_member, key_at, is_before, is_upto, IsRising, IsPlace, FindsPlace};
 
-use rl_ids::{MemberKey, Text};
+use rl_ids::{List, MemberKey, NoMemory, Text};
 use rl_types::PresenceItem;
 use std::cmp::Ordering;
 
@@ -56,6 +57,37 @@ pub fn find(items: &[PresenceItem], conn: &Text, client: &Text) -> Result<usize,
         Ok(at)
     } else {
         Err(at)
+    }
+}
+
+#[tactic(auto, using(crate::proofs::Calls::set_with, crate::proofs::Calls::insert_with, crate::proofs::Calls::set_rising, crate::proofs::Calls::insert_rising))]
+// Puts an item in place of its key's, or among the others, in order.
+pub fn put(items: &mut List<PresenceItem>, item: PresenceItem) -> Result<(), NoMemory>
+    ensures ok { IsRising items.old → OnOk result (items.new ≡ with_member item items.old) }
+    ensures rising { IsRising items.old → IsRising items.new }
+    ensures err { OnErr result (items.new ≡ items.old) }
+{
+    match find(items.as_slice(), &item.conn, &item.client) {
+        Ok(at) => {
+            items.set(at, item);
+            Ok(())
+        }
+        Err(at) => items.insert(at, item),
+    }
+}
+
+// Takes the key's member out, and answers whether there was one.
+pub fn take_out(items: &mut List<PresenceItem>, key: &MemberKey) -> bool
+    ensures held { IsRising items.old → result ≡ list_any (is_of key.now) items.old }
+    ensures left { IsRising items.old → items.new ≡ filter (λ item. not (is_of key.now item)) items.old }
+    ensures rising { IsRising items.old → IsRising items.new }
+{
+    match find(items.as_slice(), &key.conn, &key.client) {
+        Ok(at) => {
+            items.remove(at);
+            true
+        }
+        Err(_) => false,
     }
 }
 

@@ -1,8 +1,8 @@
 use Rattle.std.proofs.Common.{◌≡◌}
 use Rattle.std.specs.Prelude.{sum_by}
 use Rattle.std.specs.VecDeque.{deque_len}
-use Rattle.rl_model.specs.Window.{entry_weight, fits}
-use Rattle.rl_chanlog.specs.Window.{narrowed, young_from}
+use Rattle.rl_model.specs.Window.{entry_weight}
+use Rattle.rl_chanlog.specs.Window.{young_from}
 use Rattle.rl_chanlog.proofs.window.drop_old.Given as goal
 
 abbrev pub invariant-loop-earliest : goal.invariant-loop-earliest

@@ -2,7 +2,7 @@ use Rattle.std.proofs.Common.{◌≡◌}
 use Rattle.std.specs.Prelude.{sum_by}
 use Rattle.std.specs.VecDeque.{deque_len}
 use Rattle.rl_model.specs.Window.{entry_weight, fits}
-use Rattle.rl_chanlog.specs.Window.{narrowed, young_from}
+use Rattle.rl_chanlog.specs.Window.{narrowed}
 use Rattle.rl_chanlog.proofs.window.narrow.Given as goal
 
 abbrev pub invariant-loop-earliest : goal.invariant-loop-earliest

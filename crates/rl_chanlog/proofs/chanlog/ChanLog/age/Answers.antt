@@ -1,8 +1,9 @@
-use Rattle.std.proofs.Common.{rules, ◌≡◌, ℕ, ◌+◌, ◌-◌, ◌^◌, ◌<◌, ◌≤◌, [], length, IfOk, OnOk, OnErr, IsOk, ◌*◌, ◌/◌, ◌%◌, Bool, true, false, nat_eq, nat_lt, List, ◌∷◌, ◌++◌, slice_index_or, slice_set, bit_and, bit_or, Fits, w8, w32, w64, Bor, MutBor}
-use Rattle.rl_model.specs.Parts.{Parts, aged, parts_of, read_in, remembered_in, retained, with_entry, with_outcome, without_outcome}
-use Rattle.rl_chanlog.specs.Keeps.{IsReady, Keeps}
+use Rattle.std.proofs.Common.{refl, sym, subst}
+use Rattle.rl_chanlog.specs.Keeps.{ChanLogView, Keeps}
+use Rattle.rl_chanlog.proofs.Kept.{keeps_aged}
 use Rattle.rl_chanlog.proofs.chanlog.ChanLog.age.Goals as goal
 
--- src/chanlog.rt:161:5
 pub returns-clause-aged : goal.returns-clause-aged
-returns-clause-aged c = ?
+returns-clause-aged c = λ parts keeps.
+    let old = subst (λ (v : ChanLogView). Keeps v parts) (sym c.self.view_is) keeps in
+    keeps_aged _ _ c.args.now parts c.age.ensures.head c.age.ensures.entries c.age.ensures.head refl refl old

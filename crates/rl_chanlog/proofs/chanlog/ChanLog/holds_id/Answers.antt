@@ -1,8 +1,12 @@
-use Rattle.std.proofs.Common.{rules, ◌≡◌, ℕ, ◌+◌, ◌-◌, ◌^◌, ◌<◌, ◌≤◌, [], length, IfOk, OnOk, OnErr, IsOk, ◌*◌, ◌/◌, ◌%◌, Bool, true, false, nat_eq, nat_lt, List, ◌∷◌, ◌++◌, slice_index_or, slice_set, bit_and, bit_or, Fits, w8, w32, w64, Bor, MutBor}
-use Rattle.rl_model.specs.Parts.{Parts, aged, parts_of, read_in, remembered_in, retained, with_entry, with_outcome, without_outcome}
-use Rattle.rl_chanlog.specs.Keeps.{IsReady, Keeps}
+use Rattle.std.proofs.Common.{ℕ, ap, sym, subst, ◌∙◌}
+use Rattle.rl_chanlog.specs.Keeps.{ChanLogView, Keeps}
+use Rattle.rl_chanlog.specs.Ids.{remembered_at}
+use Rattle.rl_chanlog.proofs.Places.{found}
 use Rattle.rl_chanlog.proofs.chanlog.ChanLog.holds_id.Goals as goal
 
--- src/chanlog.rt:138:5
 pub returns : goal.returns
-returns c = ?
+returns c = λ parts keeps.
+    let old = subst (λ (v : ChanLogView). Keeps v parts) (sym c.self.view_is) keeps in
+    c.place_of.ensures
+    ∙ ap (λ (head : ℕ). remembered_at head c.args.id.now c.self.inside.ids) (c.head.ensures.value ∙ old.head)
+    ∙ found _ c.self.inside.ids c.args.id.now parts.added old.ids old.places

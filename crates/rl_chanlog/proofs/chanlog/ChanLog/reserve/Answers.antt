@@ -1,8 +1,10 @@
-use Rattle.std.proofs.Common.{rules, ◌≡◌, ℕ, ◌+◌, ◌-◌, ◌^◌, ◌<◌, ◌≤◌, [], length, IfOk, OnOk, OnErr, IsOk, ◌*◌, ◌/◌, ◌%◌, Bool, true, false, nat_eq, nat_lt, List, ◌∷◌, ◌++◌, slice_index_or, slice_set, bit_and, bit_or, Fits, w8, w32, w64, Bor, MutBor}
-use Rattle.rl_model.specs.Parts.{Parts, aged, parts_of, read_in, remembered_in, retained, with_entry, with_outcome, without_outcome}
-use Rattle.rl_chanlog.specs.Keeps.{IsReady, Keeps}
+use Rattle.std.proofs.Common.{refl, sym, subst}
+use Rattle.rl_chanlog.specs.Keeps.{ChanLogView, Keeps}
+use Rattle.rl_chanlog.proofs.Kept.{keeps_reserved}
 use Rattle.rl_chanlog.proofs.chanlog.ChanLog.reserve.Goals as goal
 
--- src/chanlog.rt:49:5
 pub returns-clause-same : goal.returns-clause-same
-returns-clause-same c = ?
+returns-clause-same c = λ parts keeps.
+    let old = subst (λ (v : ChanLogView). Keeps v parts) (sym c.self.view_is) keeps in
+    let window = c.reserve.ensures in
+    keeps_reserved _ _ parts window.head window.entries window.head c.reserve-2.ensures.same refl old

@@ -1,12 +1,14 @@
-use Rattle.std.proofs.Common.{rules, ◌≡◌, ◌+◌, ◌-◌, ◌<◌, ◌≤◌, [], ◌∷◌, List, OnOk, ℕ, ◌*◌, length, ◌/◌, ◌%◌, Bool, true, false, nat_eq, nat_lt, ◌++◌, slice_index_or, slice_set, bit_and, bit_or, Fits, w8, w32, w64, Bor, MutBor}
-use Rattle.rl_model.specs.Verdict.{Added}
-use Rattle.rl_chanlog.specs.Ids.{KeepsIds, remembered_at}
+use Rattle.std.proofs.Common.{refl, sym, subst}
+use Rattle.rl_chanlog.specs.Ids.{IdsView, KeepsIds}
+use Rattle.rl_chanlog.proofs.Places.{keeps_same, reordered_places}
 use Rattle.rl_chanlog.proofs.ids.Ids.reserve.Goals as goal
 
--- src/ids.rt:55:9
 pub returns-in_err-reserve-clause-same : goal.returns-in_err-reserve-clause-same
-returns-in_err-reserve-clause-same c = ?
+returns-in_err-reserve-clause-same c = λ added keeps.
+    let turned = subst (λ (v : IdsView). KeepsIds v added) (sym c.self.view_is) (c.turn.ensures.same added keeps) in
+    keeps_same _ _ added refl refl (reordered_places c.self.inside.recent c.reserve.new.self c.reserve.ensures.entries.2) turned
 
--- src/ids.rt:50:5
 pub returns-clause-same : goal.returns-clause-same
-returns-clause-same c = ?
+returns-clause-same c = λ added keeps.
+    let turned = subst (λ (v : IdsView). KeepsIds v added) (sym c.self.view_is) (c.turn.ensures.same added keeps) in
+    keeps_same _ _ added refl refl (reordered_places c.self.inside.recent c.reserve.new.self c.reserve.ensures.entries.2) turned

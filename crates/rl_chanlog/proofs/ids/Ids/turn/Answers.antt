@@ -1,8 +1,10 @@
-use Rattle.std.proofs.Common.{rules, ◌≡◌, ◌+◌, ◌-◌, ◌<◌, ◌≤◌, [], ◌∷◌, List, OnOk, ℕ, ◌*◌, length, ◌/◌, ◌%◌, Bool, true, false, nat_eq, nat_lt, ◌++◌, slice_index_or, slice_set, bit_and, bit_or, Fits, w8, w32, w64, Bor, MutBor}
-use Rattle.rl_model.specs.Verdict.{Added}
-use Rattle.rl_chanlog.specs.Ids.{KeepsIds, remembered_at}
+use Rattle.std.proofs.Common.{◌≡◌, [], refl, ap, sym, subst}
+use Rattle.rl_chanlog.specs.Ids.{IdsView, KeepsIds, texts_of}
+use Rattle.rl_chanlog.proofs.Places.{keeps_turned}
 use Rattle.rl_chanlog.proofs.ids.Ids.turn.Goals as goal
 
--- src/ids.rt:60:5
 pub returns-then-self-eq-MOST_IDS-clause-same : goal.returns-then-self-eq-MOST_IDS-clause-same
-returns-then-self-eq-MOST_IDS-clause-same c = ?
+returns-then-self-eq-MOST_IDS-clause-same c = λ added keeps.
+    let none : c.replace.new.dest.entries ≡ [] = rw c.replace.ensures.after c.new.ensures.empty in
+    let old = subst (λ (v : IdsView). KeepsIds v added) (sym c.self.view_is) keeps in
+    keeps_turned _ _ added c.if-self-eq-MOST_IDS.true refl (ap texts_of none) (rw c.replace.ensures.value refl) old

@@ -1,8 +1,17 @@
-use Rattle.std.proofs.Common.{rules, ◌≡◌, ℕ, ◌+◌, ◌-◌, ◌^◌, ◌<◌, ◌≤◌, ◌++◌, [], ◌∷◌, length, take, drop, sum_by, IfOk, OnOk, ◌*◌, ◌/◌, ◌%◌, Bool, true, false, nat_eq, nat_lt, List, slice_index_or, slice_set, bit_and, bit_or, Fits, w8, w32, w64, Bor, MutBor}
-use Rattle.rl_model.specs.Window.{entry_weight, fits, fits_at}
-use Rattle.rl_chanlog.specs.Window.{RiseTo, narrowed, young_from}
+use Rattle.std.proofs.Common.{◌+◌, ◌<◌, List, [], ◌∷◌, ◌++◌, ap, ◌∙◌, arith}
+use Rattle.std.proofs.Common.{length}
+use Rattle.std.proofs.lemmas.Grind.{common_steps}
+use Rattle.rl_types.specs.declared.messages.Entry.{Entry}
+use Rattle.rl_chanlog.proofs.Windows.{copied_next}
 use Rattle.rl_chanlog.proofs.window.Window.run.Goals as goal
 
--- src/window.rt:125:9
 pub loop-at-preserved : goal.loop-at-preserved
-loop-at-preserved c = ?
+loop-at-preserved c =
+    let count = c.min-count.ensures in
+    let len = c.len.ensures in
+    let long = c.self.inside.entries.ok.0 in
+    let at = c.loop-at-test.true in
+    let within : c.args.from + c.loop-at.at < length c.self.inside.entries.items = omega (arith, count, len, long, at) in
+    c.in_ok-push.ensures.ok
+    ∙ ap (λ (run : List Entry). run ++ c.in_ok-copy.field-0 ∷ []) c.loop-at.invariant
+    ∙ copied_next c.self.inside.entries.items c.args.from c.loop-at.at c.in_ok-copy.field-0 within (grind (arith, common_steps))

@@ -10,7 +10,7 @@ pub invariant_of-self : goal.invariant_of-self
 invariant_of-self c =
     let old = c.self.inside.items in
     let left : c.retain.new.self ≡ filter (λ item. not (is_on c.args.conn.now item)) old = filter_same _ (λ (item : PresenceItem). not (is_on c.args.conn.now item)) _ (λ x b f k. search rules) _ _ c.retain.ensures in
-    kept_rising old c.as_slice.result.now c.as_slice.ensures c.self.invariant (λ item. not (is_on c.args.conn.now item)) _ left
+    kept_rising (λ item. not (is_on c.args.conn.now item)) old _ c.self.invariant left
 
 pub returns-clause-left : goal.returns-clause-left
 returns-clause-left c =
