@@ -95,8 +95,8 @@ impl ChanLog {
     }
 
     /// Copies of the first entries after a place, at most `max` of them; or `NotRetained` with the first place,
-    /// exactly where the entries after the place are not all retained or the place is past the head (RTL15, and
-    /// this project's own). It costs what it gives. `NoMemory` comes where the copies do not fit.
+    /// exactly where the entries after the place are not all retained or the place is past the head (this
+    /// project's own). It costs what it gives. `NoMemory` comes where there is none for the copies.
     pub fn read(&self, alloc: Global, from: Place, max: usize) -> Result<ReadReply, NoMemory>
         ensures { IfOk result (λ reply. (parts : Parts) → Keeps self.now parts → reply ≡ read_in parts from max) }
     {
@@ -110,7 +110,8 @@ impl ChanLog {
         Ok(ReadReply::Run(run))
     }
 
-    /// The least place that is retained, or the one after the head where none is.
+    /// The least place that is retained, counted from 1, or the one after the head where none is (this project's
+    /// own).
     pub fn first(&self) -> Place
         ensures value { (parts : Parts) → Keeps self.now parts → result ≡ parts.first }
         ensures some { 1 ≤ result }
@@ -118,7 +119,7 @@ impl ChanLog {
         Place(self.window.first())
     }
 
-    /// The place of the last entry, or 0.
+    /// The place of the last entry of the log (RTL15), or 0 where there is none.
     pub fn head(&self) -> Place
         ensures value { (parts : Parts) → Keeps self.now parts → result ≡ length parts.log }
         ensures head { result ≡ self.now.head }
@@ -127,7 +128,7 @@ impl ChanLog {
         Place(self.window.head())
     }
 
-    /// How many entries are retained: at most 4,096.
+    /// How many entries are retained: at most 4,096 (this project's own).
     pub fn len(&self) -> usize
         ensures value { (parts : Parts) → Keeps self.now parts → result ≡ length (retained parts) }
         ensures limit { result ≤ 4096 }
@@ -157,8 +158,8 @@ impl ChanLog {
         self.outcomes.remove(conn.0);
     }
 
-    /// Lets the window move past the entries that are older than 120,000 ms at this moment. It costs what it
-    /// drops.
+    /// Lets the window move past the entries that are older than 120,000 ms at this moment (this project's own; a
+    /// service keeps messages for two minutes, RTN15g). It takes no memory, and costs what it drops.
     pub fn age(&mut self, now: Moment)
         ensures aged { (parts : Parts) → Keeps self.old parts → Keeps self.new (aged now parts) }
         ensures kept { (self.new.newest ≡ self.old.newest) × (self.new.head ≡ self.old.head) }

@@ -1,12 +1,13 @@
 -- What a Put is answered, and what events make of what a channel keeps.
-use Rattle.std.specs.Prelude.{ℕ, ◌+◌, Option, Some, None, nat_lt, ◌==◌, if◌then◌else◌}
+use Rattle.std.specs.Prelude.{◌≡◌, List, ℕ, ◌+◌, Option, Some, None, nat_lt, ◌==◌, if◌then◌else◌}
+use Rattle.rl_types.specs.declared.channel.ChannelEvent.{ChannelEvent}
 use Rattle.rl_types.specs.declared.channel.Verdict.{Verdict}
 use Rattle.rl_types.specs.declared.channel.Verdict.TheVariants.{Done, Old}
 use Rattle.rl_types.specs.declared.channel.Outcome.{Outcome}
 use Rattle.rl_types.specs.declared.channel.Outcome.TheVariants.{Taken, Refused}
 use Rattle.rl_types.specs.declared.messages.Body.{Body}
 use Rattle.rl_types.specs.declared.messages.Entry.{Entry}
-use Rattle.rl_model.specs.Verdict.{Judgement, Stale, Again, Known, Fails, Adds, judged_by_serial, judged_by_id, judged_by_rules}
+use Rattle.rl_model.specs.Verdict.{Judgement, Stale, Again, Known, Fails, Adds, judged_by_serial, judged_by_id, judged_by_rules, decisions, head, kept, remembered_of}
 use Rattle.rl_model.specs.Parts.{Parts, with_entry, with_outcome, without_outcome}
 
 -- the answer to a Put that adds no entry
@@ -36,3 +37,8 @@ settled_parts conn serial Old parts = parts
 abbrev pub gone_parts : ℕ → Option Entry → Parts → Parts
 gone_parts conn (Some entry) parts = without_outcome conn (with_entry entry None parts)
 gone_parts conn None parts = without_outcome conn parts
+
+-- no rule before the limit of members decides this Put after this history
+abbrev pub Passes : List ChannelEvent → ℕ → ℕ → Body → Type 0
+Passes past conn serial body =
+    settled (head past) (early serial (kept conn (decisions past)) (remembered_of body (decisions past)) (head past) body Adds) ≡ None

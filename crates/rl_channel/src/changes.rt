@@ -2,15 +2,24 @@
 ghost use Rattle.std.specs.Prelude.{◌≡◌, ◌∷◌, List, IfOk, OnOk};
 ghost use Rattle.rl_types.specs.declared.presence.PresenceItem.{PresenceItem};
 ghost use Rattle.rl_model.specs.Members.{enters, key_of, members_of};
-ghost use Rattle.rl_channel.specs.Changes.{IsAfter};
+ghost use Rattle.rl_channel.specs.Changes.{IsAfter, IsAfterPut};
 
 use rl_ids::{Copied, MemberKey, NoMemory};
 use rl_members::Members;
-use rl_types::{PresenceAction, PresenceItem};
+use rl_types::{Body, PresenceAction, PresenceItem};
 use std::alloc::Global;
 
 // The most members that stand.
 const MOST_MEMBERS: usize = 2000;
+
+// What a put makes of the members.
+#[derive(Drop)]
+pub enum After {
+    Same,
+    Changed(Members),
+    // More than may stand would, after some of its items.
+    TooMany,
+}
 
 fn enters(action: PresenceAction) -> bool
     ensures { result ≡ enters action }
@@ -55,4 +64,17 @@ pub fn members_after(
         }
     }
     Ok(Some(after))
+}
+
+// What a put of this body makes of the members. The body is as its entry has it.
+pub fn after_put(alloc: Global, members: &Members, body: &Body) -> Result<After, NoMemory>
+    ensures { IfOk result (λ after. (latest : List PresenceItem) → members.now ≡ members_of latest → IsAfterPut latest body.now after) }
+{
+    match body {
+        Body::Messages(_) => Ok(After::Same),
+        Body::Presence(items) => match members_after(alloc, members, items.as_slice())? {
+            Some(after) => Ok(After::Changed(after)),
+            None => Ok(After::TooMany),
+        },
+    }
 }

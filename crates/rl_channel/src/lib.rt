@@ -2,6 +2,9 @@
 #![tactic(auto)]
 
 mod changes;
+mod channel;
 mod filling;
 mod judging;
 mod leaving;
+
+pub use channel::{Channel, ChannelSetup, Joined};

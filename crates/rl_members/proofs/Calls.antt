@@ -1,11 +1,11 @@
 -- What the calls leave. The list that is held is the list that is seen, in order of key.
 use Rattle.std.proofs.Common.{◌≡◌, ℕ, Bool, true, false, List, [], ◌∷◌, ◌++◌, refl, ap, sym, subst, ◌∙◌}
-use Rattle.std.specs.Prelude.{insert, remove, slice_set, not, filter, map, reverse, drop, Option, Some, None, Result, OnOk}
+use Rattle.std.specs.Prelude.{insert, remove, slice_set, not, filter, map, reverse, drop, Some, None, Result, OnOk}
 use Rattle.std.proofs.lemmas.Result.{on_ok_weaker}
 use Rattle.std.specs.List.{list_any, list_all}
 use Rattle.rl_ids.specs.declared.members.MemberKey.{MemberKey}
 use Rattle.rl_types.specs.declared.presence.PresenceItem.{PresenceItem}
-use Rattle.rl_model.specs.Members.{key_of, is_of, is_on, is_past, enters, members_of, members_past}
+use Rattle.rl_model.specs.Members.{key_of, is_of, is_on, enters, members_of, members_past}
 use Rattle.rl_members.specs.Held.{with_member, IsRising, IsHeldAt, IsMissedAt, IsPlace, is_upto}
 use Rattle.rl_members.proofs.Laws.{others, first, members_enter, members_leave}
 use Rattle.rl_members.proofs.Places.{inserted_with, replaced_with, removed_others, missed_others, missed_none, held_here, is_rising_with, is_rising_kept, dropped_past}

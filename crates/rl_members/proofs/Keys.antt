@@ -6,7 +6,7 @@ use Rattle.std.specs.declared.cmp.Ordering.TheVariants.{Less, Equal, Greater}
 use Rattle.std.specs.Ordering.{nat_cmp, is_eq, is_lt, is_gt, ordering_then, ordering_reverse}
 use Rattle.std.specs.Cmp.{IsTotalOrder}
 use Rattle.std.specs.Cmp.Lexicographic.{slice_cmp}
-use Rattle.std.proofs.lemmas.Cmp.{nat_list_cmp_total, on_total, then_total, tied_itself, alike_right}
+use Rattle.std.proofs.lemmas.Cmp.{nat_list_cmp_total, on_total, then_total, tied_itself}
 use Rattle.std.proofs.lemmas.Slice.Eq.{bytes_eq-Decides}
 use Rattle.std.proofs.lemmas.Map.Text.{is_eq-slice_cmp}
 use Rattle.rl_ids.specs.declared.members.MemberKey.{MemberKey}
@@ -82,9 +82,6 @@ of_less key item h = is_of_is key item ∙ ap is_eq h
 
 pub of_greater : (key : MemberKey) (item : PresenceItem) → key_cmp key (key_of item) ≡ Greater → is_of key item ≡ false
 of_greater key item h = is_of_is key item ∙ ap is_eq h
-
-pub equal_same : (a : MemberKey) (item : PresenceItem) → key_cmp a (key_of item) ≡ Equal → a ≡ key_of item
-equal_same a item h = of_same a item (of_equal a item h)
 
 -- THE TWO ORDERS
 

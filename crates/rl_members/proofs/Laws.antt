@@ -1,5 +1,5 @@
 -- One more item, and the members that all items leave.
-use Rattle.std.proofs.Common.{◌≡◌, ℕ, Bool, true, false, cond, List, [], ◌∷◌, refl, ap, sym, subst, ◌∙◌}
+use Rattle.std.proofs.Common.{◌≡◌, Bool, true, false, cond, List, [], ◌∷◌, refl, ap, sym, subst, ◌∙◌}
 use Rattle.std.specs.Prelude.{Option, Some, None, not, filter, filter_map, find, option_and_then, ⊤}
 use Rattle.std.specs.List.{AllByRecursion, cons_option}
 use Rattle.std.specs.declared.cmp.Ordering.{Ordering}
@@ -9,7 +9,7 @@ use Rattle.rl_ids.specs.declared.members.MemberKey.{MemberKey}
 use Rattle.rl_types.specs.declared.presence.PresenceItem.{PresenceItem}
 use Rattle.rl_model.specs.Members.{key_of, key_cmp, is_of, with_key, keys_in, enters, if_enters, member, members_of}
 use Rattle.rl_members.specs.Held.{with_member}
-use Rattle.rl_members.proofs.Keys.{keys_total, before_all, before_itself, less_of_greater, greater_of_less, equal_back, of_less, of_greater, of_equal, of_same, of_itself, is_of_is, equal_same}
+use Rattle.rl_members.proofs.Keys.{keys_total, before_all, before_itself, less_of_greater, greater_of_less, equal_back, of_less, of_greater, of_equal, of_same, is_of_is}
 
 -- KEYS IN ORDER
 

@@ -1,7 +1,7 @@
 -- A place among members in order of key.
 use Rattle.std.proofs.Common.{◌≡◌, ℕ, zero, suc, ◌<◌, Bool, true, false, cond, List, [], ◌∷◌, length, drop, refl, ap, sym, ◌∙◌, arith, get_or}
 use Rattle.std.specs.Prelude.{insert, remove, slice_set, not, filter, Some}
-use Rattle.std.specs.List.{AllByRecursion, list_any}
+use Rattle.std.specs.List.{list_any}
 use Rattle.std.specs.List.Sorted.{IsPartitionedBy}
 use Rattle.std.specs.declared.cmp.Ordering.{Ordering}
 use Rattle.std.specs.declared.cmp.Ordering.TheVariants.{Less, Equal, Greater}
@@ -226,6 +226,3 @@ missed_none key items at rising h = (missed_both key items at rising.rising h).0
 
 pub missed_others : (key : MemberKey) (items : List PresenceItem) (at : ℕ) → IsRising items → IsMissedAt key items at → items ≡ others key items
 missed_others key items at rising h = sym (missed_both key items at rising.rising h).1
-
-pub is_rising_others : (key : MemberKey) (items : List PresenceItem) → IsRising items → IsRising (others key items)
-is_rising_others key items h = is_rising_kept (λ item. not (is_of key item)) items h

@@ -48,7 +48,7 @@ fn place_of(items: &[PresenceItem], conn: &Text, client: &Text) -> usize
 }
 
 // Where the member of the key of these texts is, or where it would stand. It looks at about log n of n keys.
-pub fn find(items: &[PresenceItem], conn: &Text, client: &Text) -> Result<usize, usize>
+fn find(items: &[PresenceItem], conn: &Text, client: &Text) -> Result<usize, usize>
     ensures within { MatchResult result (λ at. at < length items.now) (λ at. at ≤ length items.now) }
     ensures place { IsRising items.now → FindsPlace (key_at conn.now client.now) items.now result }
 {
@@ -60,8 +60,8 @@ pub fn find(items: &[PresenceItem], conn: &Text, client: &Text) -> Result<usize,
     }
 }
 
+// Puts an item in place of its key's, or among the others, in order. `NoMemory` leaves all as before.
 #[tactic(auto, using(crate::proofs::Calls::set_with, crate::proofs::Calls::insert_with, crate::proofs::Calls::set_rising, crate::proofs::Calls::insert_rising))]
-// Puts an item in place of its key's, or among the others, in order.
 pub fn put(items: &mut List<PresenceItem>, item: PresenceItem) -> Result<(), NoMemory>
     ensures ok { IsRising items.old → OnOk result (items.new ≡ with_member item items.old) }
     ensures rising { IsRising items.old → IsRising items.new }

@@ -1,5 +1,3 @@
-use Rattle.std.proofs.Common.{rules, ap, ◌∙◌}
-use Rattle.std.specs.Prelude.{not}
 use Rattle.rl_members.proofs.Keys.{upto_turned}
 use Rattle.rl_members.proofs.search.is_upto.Goals as goal
 

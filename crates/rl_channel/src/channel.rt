@@ -1,0 +1,239 @@
+ghost use Rattle.std.specs.Prelude.{◌≡◌, ◌≢◌, ◌+◌, ◌-◌, ◌^◌, ◌<◌, ◌≤◌, ◌∷◌, [], List, IfOk, OnOk, OnErr, length, max, Option, Some, None};
+ghost use Rattle.rl_types.specs.declared.channel.ChannelEvent.{ChannelEvent};
+ghost use Rattle.rl_types.specs.declared.channel.Outcome.TheVariants.{Taken};
+ghost use Rattle.rl_types.specs.declared.channel.Verdict.TheVariants.{Done};
+ghost use Rattle.rl_model.specs.Members.{members};
+ghost use Rattle.rl_model.specs.Parts.{Parts, parts_of, with_entry, with_outcome};
+ghost use Rattle.rl_model.specs.Reply.{is_resumed, joined_place};
+ghost use Rattle.rl_model.specs.Verdict.{Adds, decisions, head, kept, log, remembered_of, verdict};
+ghost use Rattle.rl_chanlog.specs.Keeps.{Keeps};
+ghost use Rattle.rl_channel.specs.State.{StandsFor};
+ghost use Rattle.rl_channel.specs.Steps.{early, settled, settled_parts, Passes};
+ghost use Rattle.rl_channel.specs.Changes.{changed};
+
+use crate::changes::{After, after_put};
+use crate::filling::{copied_id, filled, given_id};
+use crate::judging::judged_early;
+use rl_chanlog::ChanLog;
+use rl_ids::{ConnNo, Epoch, Moment, NoMemory, Place, SiteCode, Text};
+use rl_members::Members;
+use rl_types::{Body, Entry, Given, Outcome, Verdict};
+use std::alloc::Global;
+use std::marker::Model;
+
+/// What a channel is made with, and no event changes.
+#[derive(Clone, Copy, Debug, PartialEq, Eq)]
+pub struct ChannelSetup {
+    /// The run that the channel's serials name.
+    pub epoch: Epoch,
+    /// The site that the serials of its operations name.
+    pub site: SiteCode,
+}
+
+/// Where a session begins.
+#[derive(Clone, Copy, Debug, PartialEq, Eq)]
+pub struct Joined {
+    /// The place that is told.
+    pub place: Place,
+    /// Whether it is the place that was asked for (RTL12).
+    pub resumed: bool,
+    /// Whether members may be there (HAS_PRESENCE, RTP1): unset exactly where the session begins at the head
+    /// and no member stands.
+    pub presence: bool,
+}
+
+// 105: more than 2,000 members would stand.
+const MEMBER_LIMIT: Verdict = Verdict::Done(Outcome::Refused(105));
+
+/// A channel (RTL): its log within bounds, the members that stand, its clock.
+///
+/// It stands for its whole history, of which it keeps a bounded part, and answers each event as the definitions
+/// say of that history. A put, a join and a tick cost what they add or drop, and a read what it gives, whatever
+/// the window holds. A put of presence copies the members first, so that all its items change them or none.
+#[derive(Drop)]
+pub struct Channel {
+    setup: ChannelSetup,
+    log: ChanLog,
+    members: Members,
+    clock: Moment,
+}
+
+impl Model for Channel {
+    ghost use Rattle.std.specs.Prelude.{◌≤◌};
+    ghost use Rattle.rl_channel.specs.State.{ChannelState};
+
+    ghost Value = { ChannelState };
+
+    ghost view = { λ c. record { setup = c.setup; log = c.log; members = c.members; clock = c.clock } };
+
+    ghost invariant = { λ c. c.log.newest ≤ c.clock };
+}
+
+impl Channel {
+    /// A channel that took nothing.
+    pub fn new(alloc: Global, epoch: Epoch, site: SiteCode) -> Result<Channel, NoMemory>
+        ensures { IfOk result (λ made. StandsFor made [] × (made.setup ≡ record { epoch = epoch; site = site })) }
+    {
+        Ok(Channel {
+            setup: ChannelSetup { epoch, site },
+            log: ChanLog::new(alloc)?,
+            members: Members::new(alloc),
+            clock: Moment(0),
+        })
+    }
+
+    /// What it holds of its log. It stands for the log, the ids and the outcomes of each history that the
+    /// channel stands for.
+    pub fn log(&self) -> &ChanLog
+        ensures { (past : List ChannelEvent) → StandsFor self.now past → Keeps result.now (parts_of past) }
+    {
+        &self.log
+    }
+
+    // The clock after an event.
+    fn clock_at(&self, now: Moment) -> Moment
+        ensures value { result ≡ max now self.now.clock }
+        ensures later { self.now.log.newest ≤ result }
+    {
+        Moment(now.0.max(self.clock.0))
+    }
+}
+
+impl Channel {
+    /// Takes a put (RTL6, RTP8), and answers what the definition says of the history before it; the channel then
+    /// stands for the history with it. All memory is taken before the first change: after `NoMemory` it stands
+    /// for what it stood for.
+    pub fn put(
+        &mut self,
+        alloc: Global,
+        conn: ConnNo,
+        serial: u64,
+        body: Body,
+        now: Moment,
+    ) -> Result<Verdict, NoMemory>
+        ensures decided { IfOk result (λ answer. (past : List ChannelEvent) → StandsFor self.old past → (answer ≡ verdict (decisions past) conn serial body) × StandsFor self.new (ChannelEvent.Put conn serial body now ∷ past)) }
+        ensures err { OnErr result ((past : List ChannelEvent) → StandsFor self.old past → StandsFor self.new past) }
+        ensures setup { self.new.setup ≡ self.old.setup }
+    {
+        match self.judged(conn, serial, &body) {
+            Some(answer) => {
+                self.settle(conn, serial, &answer, now)?;
+                Ok(answer)
+            }
+            None => self.add(alloc, conn, serial, body, now),
+        }
+    }
+
+    // The place of the entry whose put gave the same id, where it is remembered.
+    fn remembered(&self, body: &Body) -> Option<Place>
+        ensures { (past : List ChannelEvent) → StandsFor self.now past → result ≡ remembered_of body.now (decisions past) }
+    {
+        match given_id(body) {
+            Some(id) => self.log.holds_id(id.as_str()),
+            None => None,
+        }
+    }
+
+    // The answer to a put that a rule before the limit of members decides.
+    fn judged(&self, conn: ConnNo, serial: u64, body: &Body) -> Option<Verdict>
+        ensures value { (past : List ChannelEvent) → StandsFor self.now past → result ≡ settled (head past) (early serial (kept conn (decisions past)) (remembered_of body.now (decisions past)) (head past) body.now Adds) }
+        ensures open { result ≡ None → self.now.log.head < 2 ^ 64 - 2 }
+    {
+        let last = self.log.last_of(conn);
+        let found = self.remembered(body);
+        judged_early(last, found, self.log.head().0, serial, body)
+    }
+
+    // Takes up the outcome of a put that adds no entry.
+    fn settle(
+        &mut self,
+        conn: ConnNo,
+        serial: u64,
+        answer: &Verdict,
+        now: Moment,
+    ) -> Result<(), NoMemory>
+        ensures ok { OnOk result ((parts : Parts) → Keeps self.old.log parts → Keeps self.new.log (settled_parts conn serial answer.now parts)) }
+        ensures err { OnErr result ((parts : Parts) → Keeps self.old.log parts → Keeps self.new.log parts) }
+        ensures members { self.new.members ≡ self.old.members }
+        ensures clock { OnOk result (self.new.clock ≡ max now self.old.clock) }
+        ensures same_clock { OnErr result (self.new.clock ≡ self.old.clock) }
+        ensures setup { self.new.setup ≡ self.old.setup }
+    {
+        if let Verdict::Done(outcome) = answer {
+            self.log.consume(conn, serial, *outcome)?;
+        }
+        self.clock = self.clock_at(now);
+        Ok(())
+    }
+}
+
+impl Channel {
+    // A put that no rule before the limit of members decides.
+    fn add(
+        &mut self,
+        alloc: Global,
+        conn: ConnNo,
+        serial: u64,
+        body: Body,
+        now: Moment,
+    ) -> Result<Verdict, NoMemory>
+        requires open { self.old.log.head < 2 ^ 64 - 2 }
+        ensures decided { IfOk result (λ answer. (past : List ChannelEvent) → StandsFor self.old past → Passes past conn serial body → (answer ≡ verdict (decisions past) conn serial body) × StandsFor self.new (ChannelEvent.Put conn serial body now ∷ past)) }
+        ensures err { OnErr result ((past : List ChannelEvent) → StandsFor self.old past → StandsFor self.new past) }
+        ensures setup { self.new.setup ≡ self.old.setup }
+    {
+        let stamp = self.clock_at(now);
+        let id = copied_id(alloc, &body)?;
+        let body = filled(alloc, conn, serial, stamp, body)?;
+        let members = match after_put(alloc, &self.members, &body)? {
+            After::TooMany => {
+                self.settle(conn, serial, &MEMBER_LIMIT, now)?;
+                return Ok(MEMBER_LIMIT);
+            }
+            After::Same => None,
+            After::Changed(members) => Some(members),
+        };
+        let entry = Entry {
+            place: Place(self.log.head().0 + 1),
+            stamp,
+            conn,
+            serial: Some(serial),
+            body,
+        };
+        self.append(alloc, serial, entry, id, members)
+    }
+
+    // Adds an entry at the next place, with its outcome and the members after it, where they change.
+    fn append(
+        &mut self,
+        alloc: Global,
+        serial: u64,
+        entry: Entry,
+        id: Option<Text>,
+        members: Option<Members>,
+    ) -> Result<Verdict, NoMemory>
+        requires place { entry.place ≡ self.old.log.head + 1 }
+        requires within { entry.place ≤ 2 ^ 64 - 2 }
+        requires later { self.old.log.newest ≤ entry.stamp }
+        ensures value { IfOk result (λ answer. answer ≡ Done (Taken entry.place)) }
+        ensures ok { OnOk result ((parts : Parts) → Keeps self.old.log parts → Keeps self.new.log (with_outcome entry.conn serial (Taken entry.place) (with_entry entry id parts))) }
+        ensures err { OnErr result ((parts : Parts) → Keeps self.old.log parts → Keeps self.new.log parts) }
+        ensures members { OnOk result (self.new.members ≡ changed members self.old.members) }
+        ensures same_members { OnErr result (self.new.members ≡ self.old.members) }
+        ensures clock { OnOk result (self.new.clock ≡ entry.stamp) }
+        ensures same_clock { OnErr result (self.new.clock ≡ self.old.clock) }
+        ensures setup { self.new.setup ≡ self.old.setup }
+    {
+        let conn = entry.conn;
+        let outcome = Outcome::Taken(entry.place);
+        self.log.reserve(alloc, &entry)?;
+        self.log.ready(conn)?;
+        self.clock = entry.stamp;
+        self.log.add(entry, id);
+        self.log.consume(conn, serial, outcome)?;
+        if let Some(members) = members {
+            self.members = members;
+        }
+        Ok(Verdict::Done(outcome))
+    }
+}
