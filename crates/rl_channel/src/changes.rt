@@ -2,7 +2,7 @@
 ghost use Rattle.std.specs.Prelude.{◌≡◌, ◌∷◌, List, IfOk, OnOk};
 ghost use Rattle.rl_types.specs.declared.presence.PresenceItem.{PresenceItem};
 ghost use Rattle.rl_model.specs.Members.{enters, key_of, members_of};
-ghost use Rattle.rl_channel.specs.Changes.{IsAfter, IsAfterPut};
+ghost use Rattle.rl_channel.specs.Changes.{changed, IsAfter, IsAfterPut};
 
 use rl_ids::{Copied, MemberKey, NoMemory};
 use rl_members::Members;
@@ -76,5 +76,14 @@ pub fn after_put(alloc: Global, members: &Members, body: &Body) -> Result<After,
             Some(after) => Ok(After::Changed(after)),
             None => Ok(After::TooMany),
         },
+    }
+}
+
+// Puts the members after a change, where there is one, in the place of those before it.
+pub fn change(members: &mut Members, after: Option<Members>)
+    ensures { members.new ≡ changed after members.old }
+{
+    if let Some(after) = after {
+        *members = after;
     }
 }

@@ -11,7 +11,7 @@ ghost use Rattle.rl_channel.specs.State.{StandsFor};
 ghost use Rattle.rl_channel.specs.Steps.{early, settled, settled_parts, Passes};
 ghost use Rattle.rl_channel.specs.Changes.{changed};
 
-use crate::changes::{After, after_put};
+use crate::changes::{After, after_put, change};
 use crate::filling::{copied_id, filled, given_id};
 use crate::judging::judged_early;
 use rl_chanlog::ChanLog;
@@ -193,14 +193,16 @@ impl Channel {
             After::Same => None,
             After::Changed(members) => Some(members),
         };
+        let place = Place(self.log.head().0 + 1);
         let entry = Entry {
-            place: Place(self.log.head().0 + 1),
+            place,
             stamp,
             conn,
             serial: Some(serial),
             body,
         };
-        self.append(alloc, serial, entry, id, members)
+        self.append(alloc, serial, entry, id, members)?;
+        Ok(Verdict::Done(Outcome::Taken(place)))
     }
 
     // Adds an entry at the next place, with its outcome and the members after it, where they change.
@@ -211,11 +213,10 @@ impl Channel {
         entry: Entry,
         id: Option<Text>,
         members: Option<Members>,
-    ) -> Result<Verdict, NoMemory>
+    ) -> Result<(), NoMemory>
         requires place { entry.place ≡ self.old.log.head + 1 }
         requires within { entry.place ≤ 2 ^ 64 - 2 }
         requires later { self.old.log.newest ≤ entry.stamp }
-        ensures value { IfOk result (λ answer. answer ≡ Done (Taken entry.place)) }
         ensures ok { OnOk result ((parts : Parts) → Keeps self.old.log parts → Keeps self.new.log (with_outcome entry.conn serial (Taken entry.place) (with_entry entry id parts))) }
         ensures err { OnErr result ((parts : Parts) → Keeps self.old.log parts → Keeps self.new.log parts) }
         ensures members { OnOk result (self.new.members ≡ changed members self.old.members) }
@@ -224,16 +225,20 @@ impl Channel {
         ensures same_clock { OnErr result (self.new.clock ≡ self.old.clock) }
         ensures setup { self.new.setup ≡ self.old.setup }
     {
-        let conn = entry.conn;
-        let outcome = Outcome::Taken(entry.place);
+        let (conn, outcome, stamp) = marks_of(&entry);
         self.log.reserve(alloc, &entry)?;
         self.log.ready(conn)?;
-        self.clock = entry.stamp;
+        self.clock = stamp;
         self.log.add(entry, id);
         self.log.consume(conn, serial, outcome)?;
-        if let Some(members) = members {
-            self.members = members;
-        }
-        Ok(Verdict::Done(outcome))
+        change(&mut self.members, members);
+        Ok(())
     }
+}
+
+// The connection of an entry, the outcome of its put, and its stamp.
+fn marks_of(entry: &Entry) -> (ConnNo, Outcome, Moment)
+    ensures { result ≡ (entry.now.conn, Taken entry.now.place, entry.now.stamp) }
+{
+    (entry.conn, Outcome::Taken(entry.place), entry.stamp)
 }
