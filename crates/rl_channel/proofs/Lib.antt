@@ -2,5 +2,6 @@ pub mod Items
 pub mod Left
 pub mod Parts
 pub mod PresenceItems
+pub mod Puts
 pub mod Rules
 pub mod Told
