@@ -3,5 +3,6 @@ pub mod Left
 pub mod Parts
 pub mod PresenceItems
 pub mod Puts
+pub mod Replies
 pub mod Rules
 pub mod Told

@@ -4,7 +4,8 @@
 mod changes;
 mod channel;
 mod filling;
+mod going;
 mod judging;
 mod leaving;
 
-pub use channel::{Channel, ChannelSetup, Joined};
+pub use channel::{Channel, ChannelSetup, Joined, MemberPage};
