@@ -1,3 +1,4 @@
+pub mod Goes
 pub mod Items
 pub mod Left
 pub mod Parts
@@ -5,4 +6,5 @@ pub mod PresenceItems
 pub mod Puts
 pub mod Replies
 pub mod Rules
+pub mod Taken
 pub mod Told

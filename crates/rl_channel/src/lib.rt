@@ -7,5 +7,6 @@ mod filling;
 mod going;
 mod judging;
 mod leaving;
+mod machine;
 
 pub use channel::{Channel, ChannelSetup, Joined, MemberPage};
