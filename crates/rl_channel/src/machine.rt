@@ -102,7 +102,7 @@ impl Machine for Channel {
 
     type Setup = ChannelSetup;
 
-    ghost use Rattle.std.specs.Prelude.{reverse};
+    ghost use Rattle.std.specs.Prelude.{reverse, []};
     ghost use Rattle.rl_model.specs.Reply.{reply as answer};
     ghost use Rattle.rl_channel.specs.State.{StandsFor, is_spare};
 
