@@ -4,3 +4,4 @@ pub mod Changes
 pub mod Finding
 pub mod Opening
 pub mod Expiring
+pub mod Shelves

@@ -1,3 +1,5 @@
+pub mod Shelf
+pub mod Lends
 pub mod Records
 pub mod Book
 pub mod Steps

@@ -9,11 +9,11 @@ ghost use Rattle.rl_connbook.specs.Steps.{after, without_all};
 
 use crate::keys::{key_text, number_in};
 use crate::record::Record;
+use crate::shelf::Shelf;
 use rl_ids::{ConnNo, Copied, List, Moment, NoMemory, Text};
 use rl_turnlock::Machine;
 use rl_types::{BookEvent, BookReply, Outcome};
 use std::alloc::Global;
-use std::collections::BTreeMap;
 use std::marker::Model;
 
 // the most connections that stand at a time
@@ -47,7 +47,7 @@ const MAX_RECORDS: usize = 1024;
 #[derive(Drop)]
 pub struct ConnBook {
     given: u32,
-    records: BTreeMap<u32, Record>,
+    records: Shelf<Record>,
 }
 
 impl Model for ConnBook {
@@ -56,18 +56,18 @@ impl Model for ConnBook {
 
     ghost Value = { Book };
 
-    ghost view = { λ b. record { given = b.given; records = b.records.entries } };
+    ghost view = { λ b. record { given = b.given; records = b.records } };
 
-    ghost invariant = { λ b. IsSound b.given b.records.entries };
+    ghost invariant = { λ b. IsSound b.given b.records };
 }
 
 // Removes the records of these connections.
 #[tactic(auto, using(std::proofs::lemmas::List::Sums::fold_push))]
-fn remove_all(records: &mut BTreeMap<u32, Record>, conns: &[ConnNo])
-    ensures entries { records.new.entries ≡ without_all records.old.entries conns.now }
+fn remove_all(records: &mut Shelf<Record>, conns: &[ConnNo])
+    ensures entries { records.new ≡ without_all records.old conns.now }
 {
     for conn in conns {
-        records.remove(&conn.0);
+        records.remove(conn.0);
     }
 }
 
@@ -79,7 +79,7 @@ impl ConnBook {
     {
         Ok(ConnBook {
             given: 0,
-            records: BTreeMap::new(alloc),
+            records: Shelf::new(alloc),
         })
     }
 
@@ -119,7 +119,7 @@ impl ConnBook {
         ensures new { (now : ℕ) → self.new ≡ after self.old (BookEvent.Resume key.now now) }
     {
         let number = number_in(key.as_bytes());
-        let Some(record) = self.records.get_mut(&number) else {
+        let Some(record) = self.records.get_mut(number) else {
             return BookReply::KeyUnknown;
         };
         if !record.may_resume(key) {
@@ -136,7 +136,7 @@ impl ConnBook {
         ensures reply { result ≡ told self.old (BookEvent.Begin conn generation serial) }
         ensures new { self.new ≡ after self.old (BookEvent.Begin conn generation serial) }
     {
-        let Some(record) = self.records.get_mut(&conn.0) else {
+        let Some(record) = self.records.get_mut(conn.0) else {
             return BookReply::NoRecord;
         };
         if generation < record.generation {
@@ -158,7 +158,7 @@ impl ConnBook {
         ensures new { OnOk result (self.new ≡ after self.old (BookEvent.End conn generation serial outcome)) }
         ensures err { OnErr result (self.new ≡ self.old) }
     {
-        let Some(record) = self.records.get_mut(&conn.0) else {
+        let Some(record) = self.records.get_mut(conn.0) else {
             return Ok(BookReply::NoRecord);
         };
         let newer = record.generation;
@@ -174,7 +174,7 @@ impl ConnBook {
         ensures reply { result ≡ told self.old (BookEvent.Lost conn generation now) }
         ensures new { self.new ≡ after self.old (BookEvent.Lost conn generation now) }
     {
-        let Some(record) = self.records.get_mut(&conn.0) else {
+        let Some(record) = self.records.get_mut(conn.0) else {
             return BookReply::NoRecord;
         };
         if generation < record.generation {
@@ -190,7 +190,7 @@ impl ConnBook {
         ensures reply { result ≡ told self.old (BookEvent.Close conn generation) }
         ensures new { self.new ≡ after self.old (BookEvent.Close conn generation) }
     {
-        let Some(record) = self.records.get_mut(&conn.0) else {
+        let Some(record) = self.records.get_mut(conn.0) else {
             return BookReply::NoRecord;
         };
         if generation < record.generation {
