@@ -5,3 +5,4 @@ pub mod Finding
 pub mod Opening
 pub mod Expiring
 pub mod Shelves
+pub mod Timing

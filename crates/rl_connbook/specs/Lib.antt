@@ -4,4 +4,5 @@ pub mod Records
 pub mod Book
 pub mod Steps
 pub mod Sound
+pub mod Due
 pub mod Examples

@@ -1,15 +1,17 @@
-ghost use Rattle.std.specs.Prelude.{◌≡◌, ℕ, [], true, map, Some, IfOk, OnOk, OnErr, IsOk};
+ghost use Rattle.std.specs.Prelude.{◌≡◌, ℕ, [], true, map, Some, IfOk, OnOk, OnErr, IsOk, IsSome};
 ghost use Rattle.std.specs.List.{filter};
-ghost use Rattle.std.specs.List.Sorted.{IsStrictlySortedBy};
-ghost use Rattle.std.specs.Map.{keys_of};
+ghost use Rattle.std.specs.Map.{lookup};
+ghost use Rattle.std.specs.BTreeMap.{is_at, insert_entry};
 ghost use Rattle.std.specs.Ordering.{nat_cmp};
 ghost use Rattle.rl_types.specs.declared.book.BookEvent.{BookEvent};
 ghost use Rattle.rl_connbook.specs.Book.{told, book_after, is_full, is_over, is_spare};
 ghost use Rattle.rl_connbook.specs.Steps.{after, without_all};
+ghost use Rattle.rl_connbook.specs.Due.{is_over_at, due_numbers, without_deadlines};
 
 use crate::keys::{key_text, number_in};
 use crate::record::Record;
 use crate::shelf::Shelf;
+use rl_deadline::Deadlines;
 use rl_ids::{ConnNo, Copied, List, Moment, NoMemory, Text};
 use rl_turnlock::Machine;
 use rl_types::{BookEvent, BookReply, Outcome};
@@ -48,17 +50,19 @@ const MAX_RECORDS: usize = 1024;
 pub struct ConnBook {
     given: u32,
     records: Shelf<Record>,
+    // when each may be over
+    deadlines: Deadlines,
 }
 
 impl Model for ConnBook {
     ghost use Rattle.rl_connbook.specs.Book.{Book};
-    ghost use Rattle.rl_connbook.specs.Sound.{IsSound};
+    ghost use Rattle.rl_connbook.specs.Due.{IsKept};
 
     ghost Value = { Book };
 
     ghost view = { λ b. record { given = b.given; records = b.records } };
 
-    ghost invariant = { λ b. IsSound b.given b.records };
+    ghost invariant = { λ b. IsKept b.given b.records b.deadlines };
 }
 
 // Removes the records of these connections.
@@ -71,6 +75,23 @@ fn remove_all(records: &mut Shelf<Record>, conns: &[ConnNo])
     }
 }
 
+// Cancels the deadlines of these connections.
+#[tactic(auto, using(std::proofs::lemmas::List::Sums::fold_push))]
+fn cancel_all(deadlines: &mut Deadlines, conns: &[ConnNo])
+    ensures { deadlines.new ≡ without_deadlines deadlines.old conns.now }
+{
+    for conn in conns {
+        deadlines.cancel(conn.0);
+    }
+}
+
+// Gives a connection that has a deadline another one. It takes no memory.
+fn postpone(deadlines: &mut Deadlines, number: u32, at: Moment)
+    ensures { IsSome (lookup (is_at (nat_cmp number)) deadlines.old) → deadlines.new ≡ insert_entry nat_cmp deadlines.old number at }
+{
+    deadlines.set(number, at).ok();
+}
+
 impl ConnBook {
     /// A book in which no connection stands, and that gave no number: it stands for no event. `NoMemory` comes
     /// where there is no memory.
@@ -80,6 +101,7 @@ impl ConnBook {
         Ok(ConnBook {
             given: 0,
             records: Shelf::new(alloc),
+            deadlines: Deadlines::new(alloc),
         })
     }
 
@@ -105,7 +127,12 @@ impl ConnBook {
         let conn = self.given + 1;
         let key = key_text(alloc, conn, word)?;
         let shown = key.copy(alloc)?;
-        self.records.insert(conn, Record::new(alloc, key))?;
+        let record = Record::new(alloc, key);
+        self.deadlines.set(conn, record.due())?;
+        if self.records.insert(conn, record).is_err() {
+            self.deadlines.cancel(conn);
+            return Err(NoMemory);
+        }
         self.given = conn;
         Ok(BookReply::Opened {
             conn: ConnNo(conn),
@@ -126,9 +153,12 @@ impl ConnBook {
             return BookReply::KeyUnknown;
         }
         record.resume();
+        let generation = record.generation;
+        let due = record.due();
+        postpone(&mut self.deadlines, number, due);
         BookReply::Resumed {
             conn: ConnNo(number),
-            generation: record.generation,
+            generation,
         }
     }
 
@@ -183,6 +213,8 @@ impl ConnBook {
             };
         }
         record.lose(now);
+        let due = record.due();
+        postpone(&mut self.deadlines, conn.0, due);
         BookReply::Done
     }
 
@@ -199,21 +231,54 @@ impl ConnBook {
             };
         }
         record.close();
+        let due = record.due();
+        postpone(&mut self.deadlines, conn.0, due);
         BookReply::Done
+    }
+
+    // Whether the connection with this number is there and over.
+    fn is_over(&self, number: u32, now: Moment) -> bool
+        ensures { result ≡ is_over_at now self.now.records number }
+    {
+        match self.records.get(number) {
+            Some(record) => record.is_over(now),
+            None => false,
+        }
+    }
+
+    // Those of these connections that are over.
+    fn over_among(
+        &self,
+        alloc: Global,
+        numbers: &[u32],
+        now: Moment,
+    ) -> Result<List<ConnNo>, NoMemory>
+        ensures { IfOk result (λ conns. conns ≡ filter (is_over_at now self.now.records) numbers.now) }
+    {
+        let mut conns = List::new(alloc);
+        for number in numbers {
+            if self.is_over(*number, now) {
+                conns.push(ConnNo(*number))?;
+            }
+        }
+        Ok(conns)
+    }
+
+    // The numbers of the connections whose deadline has come, in order.
+    fn due(&self, alloc: Global, now: Moment) -> Result<List<u32>, NoMemory>
+        ensures { IfOk result (λ numbers. numbers ≡ due_numbers now self.now.records) }
+    {
+        let mut numbers = self.deadlines.due(alloc, now)?;
+        numbers.sort()?;
+        Ok(numbers)
     }
 
     // The connections that are over, in order.
     fn over(&self, alloc: Global, now: Moment) -> Result<List<ConnNo>, NoMemory>
-        ensures conns { IfOk result (λ conns. conns ≡ map (λ e. e.0) (filter (λ e. is_over now e.1) self.now.records)) }
-        ensures ordered { IsStrictlySortedBy nat_cmp (keys_of self.now.records) }
+        ensures { IfOk result (λ conns. conns ≡ map (λ e. e.0) (filter (λ e. is_over now e.1) self.now.records)) }
     {
-        let mut conns = List::new(alloc);
-        for (conn, record) in self.records.iter() {
-            if record.is_over(now) {
-                conns.push(ConnNo(*conn))?;
-            }
-        }
-        Ok(conns)
+        let numbers = self.due(alloc, now)?;
+        self.over_among(alloc, numbers.as_slice(), now)
     }
 
     fn expire(&mut self, alloc: Global, now: Moment) -> Result<BookReply, NoMemory>
@@ -223,6 +288,7 @@ impl ConnBook {
     {
         let conns = self.over(alloc, now)?;
         remove_all(&mut self.records, conns.as_slice());
+        cancel_all(&mut self.deadlines, conns.as_slice());
         Ok(BookReply::Expired(conns))
     }
 

@@ -9,7 +9,7 @@ use Rattle.rl_connbook.proofs.book.ConnBook.expire.Goals as goal
 
 pub invariant_of-self : goal.invariant_of-self
 invariant_of-self c =
-    let book : Book = record { given = c.self.inside.given; records = c.self.inside.records.entries } in
+    let book : Book = record { given = c.self.inside.given; records = c.self.inside.records } in
     let es = book.records in
     let conns : c.in_ok-conns.conns ≡ numbers_over c.args.now es = search rules in
     let gone : c.remove_all.new.records.entries ≡ without_all es (numbers_over c.args.now es) = c.remove_all.ensures.entries ∙ ap (without_all es) (c.as_slice.ensures ∙ conns) in
@@ -19,7 +19,7 @@ invariant_of-self c =
 
 pub returns-clause-new : goal.returns-clause-new
 returns-clause-new c =
-    let book : Book = record { given = c.self.inside.given; records = c.self.inside.records.entries } in
+    let book : Book = record { given = c.self.inside.given; records = c.self.inside.records } in
     let es = book.records in
     let conns : c.in_ok-conns.conns ≡ numbers_over c.args.now es = search rules in
     let gone : c.remove_all.new.records.entries ≡ without_all es (numbers_over c.args.now es) = c.remove_all.ensures.entries ∙ ap (without_all es) (c.as_slice.ensures ∙ conns) in

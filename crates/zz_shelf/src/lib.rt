@@ -1,0 +1,5 @@
+//! Scratch.
+#![tactic(auto)]
+
+mod shelf;
+pub use shelf::Shelf;
