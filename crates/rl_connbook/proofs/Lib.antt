@@ -6,3 +6,5 @@ pub mod Opening
 pub mod Expiring
 pub mod Shelves
 pub mod Timing
+pub mod Coming
+pub mod Over

@@ -1,23 +1,27 @@
 -- The deadlines of the records, where a record changes, comes or goes.
 use Rattle.std.proofs.Common.{◌≡◌, ℕ, ◌<◌, ◌≤◌, Bool, true, false, cond, List, [], ◌∷◌, map, refl, ap, sym, subst, ◌∙◌, arith}
-use Rattle.std.specs.Prelude.{Option, Some, None, IsSome, is_some, fold}
-use Rattle.std.specs.List.{AllByRecursion}
+use Rattle.std.specs.Prelude.{Option, Some, None, IsSome, is_some, not, fold}
+use Rattle.std.specs.List.{AllByRecursion, filter}
 use Rattle.std.specs.List.Sorted.{IsStrictlySortedBy}
 use Rattle.std.specs.Ordering.{nat_cmp, match_ordering, is_eq}
 use Rattle.std.specs.declared.cmp.Ordering.{Ordering}
 use Rattle.std.specs.declared.cmp.Ordering.TheVariants.{Less, Equal, Greater}
 use Rattle.std.specs.Map.{lookup, set_value, remove_entry, keys_of}
 use Rattle.std.specs.BTreeMap.{is_at, insert_entry}
+use Rattle.std.proofs.lemmas.Map.{keys-set_value}
 use Rattle.std.proofs.lemmas.Bool.Decides.{nat_tests}
 use Rattle.rl_types.specs.declared.book.BookEvent.{BookEvent}
 use Rattle.rl_types.specs.declared.book.BookReply.{BookReply}
 use Rattle.rl_connbook.specs.declared.record.Record.{Record}
 use Rattle.rl_connbook.specs.Records.{standing_after}
-use Rattle.rl_connbook.specs.Book.{is_opened}
+use Rattle.rl_connbook.specs.Book.{is_opened, is_over}
 use Rattle.rl_connbook.specs.Steps.{record_after, without, without_all}
 use Rattle.rl_connbook.specs.Sound.{IsSound}
 use Rattle.rl_connbook.specs.Due.{IsKept, due_at, deadlines_of, without_deadline, without_deadlines}
 use Rattle.rl_connbook.proofs.Changes.{sound_after, same_back}
+use Rattle.rl_connbook.proofs.Finding.{numbers_over}
+use Rattle.rl_connbook.proofs.Expiring.{left_over}
+use Rattle.rl_connbook.proofs.Opening.{sound_kept}
 
 -- a record's deadline
 abbrev timed : ℕ × Record → ℕ × ℕ
@@ -80,10 +84,14 @@ unfolding IsStrictlySortedBy
 moved_set n old new [] rises found = cc
 moved_set n old new (e ∷ es) rises found = moved_by (nat_cmp n e.0) n old new e es refl rises.0 found (moved_set n old new es rises.1)
 
+rises_set : (n : ℕ) (new : Record) (old es : List (ℕ × Record)) → es ≡ set_at n old new → IsStrictlySortedBy nat_cmp (keys_of old) → IsStrictlySortedBy nat_cmp (keys_of es)
+rises_set n new old es set rises = subst (λ (ns : List ℕ). IsStrictlySortedBy nat_cmp ns) (sym (ap keys_of set ∙ keys-set_value (is_at (nat_cmp n)) old new)) rises
+
 -- an event left a record as it stands
 pub kept_after : (event : BookEvent) (reply : BookReply) (conn given : ℕ) (r new : Record) (old es : List (ℕ × Record)) (ds : List (ℕ × ℕ)) → is_opened reply ≡ false → standing_after event reply r.standing ≡ r.standing → lookup (is_at (nat_cmp conn)) old ≡ Some r → new ≡ record_after event reply r → es ≡ set_at conn old new → IsKept given old ds → IsKept given es ds
 kept_after event reply conn given r new old es ds opens stands found made set kept = record {
   sound = sound_after event reply conn given r new old es opens found made set kept.sound;
+  rises = rises_set conn new old es set kept.rises;
   due = kept.due ∙ sym (ap deadlines_of set ∙ same_set conn r new old (ap (λ (x : Record). x.standing) made ∙ stands) found);
 }
 
@@ -93,14 +101,15 @@ kept_same conn given r new old es ds found same set kept =
     subst (λ (xs : List (ℕ × Record)). IsKept given xs ds) (sym (same_back conn r new old es found same set)) kept
 
 -- an event changed how a connection stands, and its deadline follows
-pub kept_moved : (event : BookEvent) (reply : BookReply) (conn given at : ℕ) (r new : Record) (old es : List (ℕ × Record)) (ds later : List (ℕ × ℕ)) → is_opened reply ≡ false → IsStrictlySortedBy nat_cmp (keys_of old) → lookup (is_at (nat_cmp conn)) old ≡ Some r → new ≡ record_after event reply r → es ≡ set_at conn old new → at ≡ due_at new.standing → (IsSome (lookup (is_at (nat_cmp conn)) ds) → later ≡ insert_entry nat_cmp ds conn at) → IsKept given old ds → IsKept given es later
-kept_moved event reply conn given at r new old es ds later opens rises found made set time moved kept = record {
+pub kept_moved : (event : BookEvent) (reply : BookReply) (conn given at : ℕ) (r new : Record) (old es : List (ℕ × Record)) (ds later : List (ℕ × ℕ)) → is_opened reply ≡ false → lookup (is_at (nat_cmp conn)) old ≡ Some r → new ≡ record_after event reply r → es ≡ set_at conn old new → at ≡ due_at new.standing → (IsSome (lookup (is_at (nat_cmp conn)) ds) → later ≡ insert_entry nat_cmp ds conn at) → IsKept given old ds → IsKept given es later
+kept_moved event reply conn given at r new old es ds later opens found made set time moved kept = record {
   sound = sound_after event reply conn given r new old es opens found made set kept.sound;
+  rises = rises_set conn new old es set kept.rises;
   due =
     moved (has_deadline conn old r ds kept.due found)
     ∙ ap (insert_entry nat_cmp ds conn) time
     ∙ ap (λ (xs : List (ℕ × ℕ)). insert_entry nat_cmp xs conn (due_at new.standing)) kept.due
-    ∙ sym (ap deadlines_of set ∙ moved_set conn r new old rises found);
+    ∙ sym (ap deadlines_of set ∙ moved_set conn r new old kept.rises found);
 }
 
 -- ONE COMES
@@ -139,7 +148,7 @@ is_none_by (Some m) h = cc
 pub kept_back : (given n v : ℕ) (es : List (ℕ × Record)) (ds more left : List (ℕ × ℕ)) → lookup (is_at (nat_cmp n)) es ≡ None → more ≡ insert_entry nat_cmp ds n v → left ≡ without_deadline more n → IsKept given es ds → IsKept given es left
 kept_back given n v es ds more left none put out kept =
     let absent : lookup (is_at (nat_cmp n)) ds ≡ None = is_none_by (lookup (is_at (nat_cmp n)) ds) (ap (λ (xs : List (ℕ × ℕ)). is_some (lookup (is_at (nat_cmp n)) xs)) kept.due ∙ found_both n es ∙ ap is_some none) in
-    record { sound = kept.sound; due = out ∙ ap (λ (xs : List (ℕ × ℕ)). without_deadline xs n) put ∙ taken_back n v ds absent ∙ kept.due }
+    record { sound = kept.sound; rises = kept.rises; due = out ∙ ap (λ (xs : List (ℕ × ℕ)). without_deadline xs n) put ∙ taken_back n v ds absent ∙ kept.due }
 
 above_not : (n given m : ℕ) → m ≤ given → given < n → is_at (nat_cmp n) m ≡ false
 above_not n given m h k = grind (arith, nat_tests)
@@ -162,3 +171,34 @@ gone_one n (e ∷ es) = gone_by (is_at (nat_cmp n) e.0) n e es (gone_one n es)
 pub gone_all : (es : List (ℕ × Record)) (ns : List ℕ) → deadlines_of (without_all es ns) ≡ without_deadlines (deadlines_of es) ns
 gone_all es [] = refl
 gone_all es (n ∷ ns) = gone_all (without es n) ns ∙ ap (λ (ds : List (ℕ × ℕ)). without_deadlines ds ns) (gone_one n es)
+
+above_by : (m : ℕ) (b : Bool) (e : ℕ × Record) (es : List (ℕ × Record)) → nat_cmp m e.0 ≡ Less → AllByRecursion (λ n. nat_cmp m n ≡ Less) (keys_of es) → AllByRecursion (λ n. nat_cmp m n ≡ Less) (keys_of (cond b (e ∷ es) es))
+above_by m true e es here rest = (here, rest)
+above_by m false e es here rest = rest
+
+above_left : (test : ℕ × Record → Bool) (m : ℕ) (es : List (ℕ × Record)) → AllByRecursion (λ n. nat_cmp m n ≡ Less) (keys_of es) → AllByRecursion (λ n. nat_cmp m n ≡ Less) (keys_of (filter test es))
+above_left test m [] all = tt
+above_left test m (e ∷ es) all = above_by m (test e) e (filter test es) all.0 (above_left test m es all.1)
+
+rises_by : (b : Bool) (e : ℕ × Record) (es : List (ℕ × Record)) → AllByRecursion (λ n. nat_cmp e.0 n ≡ Less) (keys_of es) → IsStrictlySortedBy nat_cmp (keys_of es) → IsStrictlySortedBy nat_cmp (keys_of (cond b (e ∷ es) es))
+unfolding IsStrictlySortedBy
+rises_by true e es above rest = (above, rest)
+rises_by false e es above rest = rest
+
+rises_left : (test : ℕ × Record → Bool) (es : List (ℕ × Record)) → IsStrictlySortedBy nat_cmp (keys_of es) → IsStrictlySortedBy nat_cmp (keys_of (filter test es))
+unfolding IsStrictlySortedBy
+rises_left test [] rises = tt
+rises_left test (e ∷ es) rises = rises_by (test e) e (filter test es) (above_left test e.0 es rises.0) (rises_left test es rises.1)
+
+-- what is left where those that are over go
+pub left_is : (now : ℕ) (es left : List (ℕ × Record)) (conns : List ℕ) → IsStrictlySortedBy nat_cmp (keys_of es) → conns ≡ numbers_over now es → left ≡ without_all es conns → left ≡ filter (λ e. not (is_over now e.1)) es
+left_is now es left conns rises are is = is ∙ ap (without_all es) are ∙ left_over now es rises
+
+pub kept_gone : (now given : ℕ) (es left : List (ℕ × Record)) (ds later : List (ℕ × ℕ)) (conns : List ℕ) → conns ≡ numbers_over now es → left ≡ without_all es conns → later ≡ without_deadlines ds conns → IsKept given es ds → IsKept given left later
+kept_gone now given es left ds later conns are is gone kept =
+    let rest = left_is now es left conns kept.rises are is in
+    record {
+      sound = subst (IsSound given) (sym rest) (sound_kept now given es kept.sound);
+      rises = subst (λ (xs : List (ℕ × Record)). IsStrictlySortedBy nat_cmp (keys_of xs)) (sym rest) (rises_left (λ e. not (is_over now e.1)) es kept.rises);
+      due = gone ∙ ap (λ (xs : List (ℕ × ℕ)). without_deadlines xs conns) kept.due ∙ sym (gone_all es conns) ∙ ap deadlines_of (sym is);
+    }

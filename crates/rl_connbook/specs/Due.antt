@@ -1,7 +1,8 @@
 -- When connections are given up.
 use Rattle.std.specs.Prelude.{◌≡◌, ℕ, ◌+◌, ◌-◌, ◌^◌, min, Bool, false, nat_le, List, map, fold, Option, Some, None}
 use Rattle.std.specs.List.{filter}
-use Rattle.std.specs.Map.{lookup, remove_entry}
+use Rattle.std.specs.List.Sorted.{IsStrictlySortedBy}
+use Rattle.std.specs.Map.{lookup, remove_entry, keys_of}
 use Rattle.std.specs.BTreeMap.{is_at}
 use Rattle.std.specs.Ordering.{nat_cmp}
 use Rattle.rl_connbook.specs.declared.record.Record.{Record}
@@ -20,9 +21,10 @@ due_at Closed = 0
 abbrev pub deadlines_of : List (ℕ × Record) → List (ℕ × ℕ)
 deadlines_of records = map (λ e. (e.0, due_at e.1.standing)) records
 
--- the book is sound, and its deadlines are those of its records
+-- the book is sound, its records' numbers rise, and its deadlines are those of its records
 pub record IsKept (given : ℕ) (records : List (ℕ × Record)) (deadlines : List (ℕ × ℕ)) : Type 0 where
   pub sound : IsSound given records
+  pub rises : IsStrictlySortedBy nat_cmp (keys_of records)
   pub due : deadlines ≡ deadlines_of records
 
 -- a record that is there and over

@@ -1,6 +1,7 @@
 ghost use Rattle.std.specs.Prelude.{◌≡◌, ℕ, [], true, map, Some, IfOk, OnOk, OnErr, IsOk, IsSome};
 ghost use Rattle.std.specs.List.{filter};
-ghost use Rattle.std.specs.Map.{lookup};
+ghost use Rattle.std.specs.List.Sorted.{IsStrictlySortedBy};
+ghost use Rattle.std.specs.Map.{keys_of, lookup};
 ghost use Rattle.std.specs.BTreeMap.{is_at, insert_entry};
 ghost use Rattle.std.specs.Ordering.{nat_cmp};
 ghost use Rattle.rl_types.specs.declared.book.BookEvent.{BookEvent};
@@ -68,7 +69,7 @@ impl Model for ConnBook {
 // Removes the records of these connections.
 #[tactic(auto, using(std::proofs::lemmas::List::Sums::fold_push))]
 fn remove_all(records: &mut Shelf<Record>, conns: &[ConnNo])
-    ensures entries { records.new ≡ without_all records.old conns.now }
+    ensures { records.new ≡ without_all records.old conns.now }
 {
     for conn in conns {
         records.remove(conn.0);
@@ -266,7 +267,8 @@ impl ConnBook {
 
     // The numbers of the connections whose deadline has come, in order.
     fn due(&self, alloc: Global, now: Moment) -> Result<List<u32>, NoMemory>
-        ensures { IfOk result (λ numbers. numbers ≡ due_numbers now self.now.records) }
+        ensures numbers { IfOk result (λ numbers. numbers ≡ due_numbers now self.now.records) }
+        ensures ordered { IsStrictlySortedBy nat_cmp (keys_of self.now.records) }
     {
         let mut numbers = self.deadlines.due(alloc, now)?;
         numbers.sort()?;

@@ -1,5 +1,2 @@
 //! Scratch.
 #![tactic(auto)]
-
-mod shelf;
-pub use shelf::Shelf;

@@ -44,7 +44,7 @@ invariant_of-self-2 c =
     let r = c.in-Some.record.now in
     let found : record_at conn book ≡ Some r = sym c.in-Some.ensures.value in
     let made : c.lose.new.self ≡ record_after event Done r = c.lose.ensures conn c.args.generation in
-    kept_moved event Done conn c.self.inside.given c.due-due.result r c.lose.new.self book.records _ c.self.inside.deadlines c.postpone.new.deadlines refl c.get_mut.ensures.ordered found made refl c.due-due.ensures c.postpone.ensures c.self.invariant
+    kept_moved event Done conn c.self.inside.given c.due-due.result r c.lose.new.self book.records _ c.self.inside.deadlines c.postpone.new.deadlines refl found made refl c.due-due.ensures c.postpone.ensures c.self.invariant
 
 pub returns-clause-new : goal.returns-clause-new
 returns-clause-new c =

@@ -73,7 +73,7 @@ invariant_of-self-2 c =
     let r = c.in-Some.record.now in
     let found : record_at number book ≡ Some r = sym c.in-Some.ensures.value in
     let made = c.resume.ensures.new key 0 number (raised r.generation) in
-    kept_moved (Resume key 0) (Resumed number (raised r.generation)) number c.self.inside.given c.due-due.result r c.resume.new.self book.records _ c.self.inside.deadlines c.postpone.new.deadlines refl c.get_mut.ensures.ordered found made refl c.due-due.ensures c.postpone.ensures c.self.invariant
+    kept_moved (Resume key 0) (Resumed number (raised r.generation)) number c.self.inside.given c.due-due.result r c.resume.new.self book.records _ c.self.inside.deadlines c.postpone.new.deadlines refl found made refl c.due-due.ensures c.postpone.ensures c.self.invariant
 
 pub returns-clause-reply : goal.returns-clause-reply
 returns-clause-reply c =

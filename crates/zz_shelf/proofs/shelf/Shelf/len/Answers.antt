@@ -1,7 +1,0 @@
-use Rattle.std.proofs.Common.{sym, ◌∙◌}
-use Rattle.slab.specs.Slab.{get}
-use Rattle.zz_shelf.proofs.Shelves.{length_joined}
-use Rattle.zz_shelf.proofs.shelf.Shelf.len.Goals as goal
-
-pub returns : goal.returns
-returns g c = rw (← c.self.view_is) (c.len.ensures.len ∙ sym (length_joined c.self.inside.index.entries (get c.self.inside.slots) c.self.invariant.held))
