@@ -1,5 +1,5 @@
 -- The deadlines of the records, where a record changes, comes or goes.
-use Rattle.std.proofs.Common.{◌≡◌, ℕ, ◌<◌, ◌≤◌, Bool, true, false, cond, List, [], ◌∷◌, map, refl, ap, sym, subst, ◌∙◌, arith}
+use Rattle.std.proofs.Common.{◌≡◌, ℕ, ◌+◌, ◌^◌, ◌<◌, ◌≤◌, Bool, true, false, cond, List, [], ◌∷◌, ◌++◌, map, refl, ap, sym, subst, ◌∙◌, arith}
 use Rattle.std.specs.Prelude.{Option, Some, None, IsSome, is_some, not, fold}
 use Rattle.std.specs.List.{AllByRecursion, filter}
 use Rattle.std.specs.List.Sorted.{IsStrictlySortedBy}
@@ -14,12 +14,12 @@ use Rattle.rl_types.specs.declared.book.BookEvent.{BookEvent}
 use Rattle.rl_types.specs.declared.book.BookReply.{BookReply}
 use Rattle.rl_connbook.specs.declared.record.Record.{Record}
 use Rattle.rl_connbook.specs.Records.{standing_after}
-use Rattle.rl_connbook.specs.Book.{is_opened, is_over}
+use Rattle.rl_connbook.specs.Book.{is_opened, is_over, key_text}
 use Rattle.rl_connbook.specs.Steps.{record_after, without, without_all}
 use Rattle.rl_connbook.specs.Sound.{IsSound}
 use Rattle.rl_connbook.specs.Due.{IsKept, due_at, deadlines_of, without_deadline, without_deadlines}
 use Rattle.rl_connbook.proofs.Changes.{sound_after, same_back}
-use Rattle.rl_connbook.proofs.Finding.{numbers_over}
+use Rattle.rl_connbook.proofs.Finding.{numbers_over, inserted_last, sound_more}
 use Rattle.rl_connbook.proofs.Expiring.{left_over}
 use Rattle.rl_connbook.proofs.Opening.{sound_kept}
 
@@ -201,4 +201,30 @@ kept_gone now given es left ds later conns are is gone kept =
       sound = subst (IsSound given) (sym rest) (sound_kept now given es kept.sound);
       rises = subst (λ (xs : List (ℕ × Record)). IsStrictlySortedBy nat_cmp (keys_of xs)) (sym rest) (rises_left (λ e. not (is_over now e.1)) es kept.rises);
       due = gone ∙ ap (λ (xs : List (ℕ × ℕ)). without_deadlines xs conns) kept.due ∙ sym (gone_all es conns) ∙ ap deadlines_of (sym is);
+    }
+
+last_above : (m given n : ℕ) → m ≤ given → n ≡ given + 1 → nat_cmp m n ≡ Less
+last_above m given n h is = grind (arith, nat_tests)
+
+above_last : (m n : ℕ) (r : Record) (es : List (ℕ × Record)) → nat_cmp m n ≡ Less → AllByRecursion (λ q. nat_cmp m q ≡ Less) (keys_of es) → AllByRecursion (λ q. nat_cmp m q ≡ Less) (keys_of (es ++ (n, r) ∷ []))
+above_last m n r [] h all = (h, tt)
+above_last m n r (e ∷ es) h all = (all.0, above_last m n r es h all.1)
+
+rises_last : (n given : ℕ) (r : Record) (es : List (ℕ × Record)) → n ≡ given + 1 → AllByRecursion (λ e. e.0 ≤ given) es → IsStrictlySortedBy nat_cmp (keys_of es) → IsStrictlySortedBy nat_cmp (keys_of (es ++ (n, r) ∷ []))
+unfolding IsStrictlySortedBy
+rises_last n given r [] is below rises = (tt, tt)
+rises_last n given r (e ∷ es) is below rises = (above_last e.0 n r es (last_above e.0 given n below.0 is) rises.0, rises_last n given r es is below.1 rises.1)
+
+-- a new connection stands behind the others
+pub kept_new : (n given word at : ℕ) (r : Record) (es more : List (ℕ × Record)) (ds later : List (ℕ × ℕ)) → n ≡ given + 1 → n < 2 ^ 32 → r.key ≡ key_text n word → more ≡ insert_entry nat_cmp es n r → at ≡ due_at r.standing → later ≡ insert_entry nat_cmp ds n at → IsKept given es ds → IsKept n more later
+kept_new n given word at r es more ds later next small key put time moved kept =
+    let last = put ∙ inserted_last n given r es next kept.sound.below in
+    record {
+      sound = subst (IsSound n) (sym last) (sound_more n given word r es next small key kept.sound);
+      rises = subst (λ (xs : List (ℕ × Record)). IsStrictlySortedBy nat_cmp (keys_of xs)) (sym last) (rises_last n given r es next kept.sound.below kept.rises);
+      due =
+        moved
+        ∙ ap (insert_entry nat_cmp ds n) time
+        ∙ ap (λ (xs : List (ℕ × ℕ)). insert_entry nat_cmp xs n (due_at r.standing)) kept.due
+        ∙ sym (ap deadlines_of put ∙ new_deadline n r es);
     }

@@ -102,7 +102,6 @@ impl<T: Drop> Shelf<T> {
         requires { lookup (is_at (nat_cmp number)) self.old ≡ None }
         ensures ok { OnOk result (self.new ≡ insert_entry nat_cmp self.old number value) }
         ensures err { OnErr result (self.new ≡ self.old) }
-        ensures ordered { IsStrictlySortedBy nat_cmp (keys_of self.new) }
     {
         self.slots.reserve(1)?;
         let slot = self.slots.vacant_key();
