@@ -1,12 +1,11 @@
-ghost use Rattle.std.specs.Prelude.{◌≡◌, [], length, None, is_some, IsSome, Some, OnOk, OnErr};
-ghost use Rattle.std.specs.Borrow.{sem, Lends};
+ghost use Rattle.std.specs.Prelude.{◌≡◌, [], length, None, OnOk, OnErr};
+ghost use Rattle.std.specs.Borrow.{sem};
 ghost use Rattle.std.specs.Option.{option_copied, option_copied_mut};
 ghost use Rattle.std.specs.List.Sorted.{IsStrictlySortedBy};
 ghost use Rattle.std.specs.Map.{keys_of, lookup, remove_entry};
 ghost use Rattle.std.specs.BTreeMap.{is_at, insert_entry};
 ghost use Rattle.std.specs.Ordering.{nat_cmp};
-ghost use Rattle.slab.specs.Slab.{get};
-ghost use Rattle.rl_connbook.specs.Lends.{lends_value, lends_get};
+ghost use Rattle.rl_connbook.specs.Lends.{lends_get};
 
 use rl_ids::NoMemory;
 use slab::Slab;
@@ -16,7 +15,9 @@ use std::marker::Model;
 
 // Values under numbers. A contract sees it as the pairs of a number and its value, in order of number.
 //
-// A value stands in a slot, which a map finds by the number. With n values that is about the logarithm of n steps.
+// A value stands in a slot of a slab, and a map leads from its number to the slot. With n values, each call but
+// `new` and `len` searches the map once, in steps of about the logarithm of n; beside that it takes a time that
+// does not grow with n, save where the slab grows.
 #[derive(Drop)]
 pub struct Shelf<T> {
     index: BTreeMap<u32, usize>,
@@ -63,41 +64,19 @@ impl<T> Shelf<T> {
         self.slots.get(*slot)
     }
 
-
-    // Whether a number has a value.
-    fn has(&self, number: u32) -> bool
-        ensures has { result ≡ is_some (lookup (is_at (nat_cmp number)) self.now) }
-        ensures ordered { IsStrictlySortedBy nat_cmp (keys_of self.now) }
-    {
-        self.index.contains_key(&number)
-    }
-
-    // The value of a number that has one, for writing.
-    fn at_mut(&mut self, number: u32) -> &mut T
-        requires { IsSome (lookup (is_at (nat_cmp number)) self.old) }
-        ensures* writes_back { sem 𝓛 (lends_value T.row self.entry number result) }
-        ensures value { lookup (is_at (nat_cmp number)) self.old ≡ Some result.now }
-    {
-        let slot = self.index[&number];
-        &mut self.slots[slot]
-    }
-
     // The value of a number, for writing.
     pub fn get_mut(&mut self, number: u32) -> Option<&mut T>
         ensures* writes_back { sem 𝓛 (lends_get T.row self.entry number result) }
         ensures value { option_copied_mut result ≡ lookup (is_at (nat_cmp number)) self.old }
         ensures ordered { IsStrictlySortedBy nat_cmp (keys_of self.old) }
     {
-        if self.has(number) {
-            Some(self.at_mut(number))
-        } else {
-            None
-        }
+        let slot = *self.index.get(&number)?;
+        self.slots.get_mut(slot)
     }
 }
 
 impl<T: Drop> Shelf<T> {
-    // Gives a new number a value. All memory is taken before the first change.
+    // Gives a new number a value. All memory is taken before the first change; after `NoMemory` all is as before.
     pub fn insert(&mut self, number: u32, value: T) -> Result<(), NoMemory>
         requires { lookup (is_at (nat_cmp number)) self.old ≡ None }
         ensures ok { OnOk result (self.new ≡ insert_entry nat_cmp self.old number value) }
