@@ -1,13 +1,11 @@
 -- The connections whose deadline has come, sorted by number, are those that the records tell.
-use Rattle.std.proofs.Common.{◌≡◌, ℕ, zero, suc, ◌+◌, ◌<◌, ◌≤◌, Bool, true, false, cond, List, [], ◌∷◌, length, get_or, map, refl, ap, sym, subst, ◌∙◌, arith}
-use Rattle.std.specs.Prelude.{◌==◌, nat_le, Option, Some, None, sum_by, IsPermutation, IsSorted}
+use Rattle.std.proofs.Common.{◌≡◌, ℕ, suc, ◌+◌, ◌<◌, ◌≤◌, Bool, true, false, cond, List, [], ◌∷◌, length, get_or, map, refl, ap, sym, ◌∙◌, arith}
+use Rattle.std.specs.Prelude.{◌==◌, nat_le, sum_by, IsPermutation, IsSorted}
 use Rattle.std.specs.List.{AllByRecursion, filter}
 use Rattle.std.specs.List.Sorted.{IsStrictlySortedBy, IsNonDecreasing}
 use Rattle.std.specs.Ordering.{nat_cmp}
-use Rattle.std.specs.declared.cmp.Ordering.{Ordering}
-use Rattle.std.specs.declared.cmp.Ordering.TheVariants.{Less, Equal, Greater}
-use Rattle.std.specs.Map.{lookup, keys_of}
-use Rattle.std.specs.BTreeMap.{is_at}
+use Rattle.std.specs.declared.cmp.Ordering.TheVariants.{Less}
+use Rattle.std.specs.Map.{keys_of}
 use Rattle.std.proofs.lemmas.Bool.Decides.{nat_tests}
 use Rattle.std.proofs.lemmas.List.Sums.{sum_by-cons}
 use Rattle.std.proofs.lemmas.List.Sorted.{sum_by-IsPermutation, IsNonDecreasingBy-from_sort}
@@ -108,11 +106,11 @@ below_rising k y (m ∷ ys) h all = (omega (arith, h, all.0), below_rising k y y
 heads : (y z : ℕ) (ys zs : List ℕ) → AllByRecursion (λ m. y ≤ m) ys → AllByRecursion (λ m. nat_cmp z m ≡ Less) zs → ((k : ℕ) → times k (y ∷ ys) ≡ times k (z ∷ zs)) → y ≡ z
 heads y z ys zs low high same =
     let no_less : (y < z) → ⊥ = λ less.
-        let none = none_rising y (z ∷ zs) (less, below_strict y z zs (omega (arith, less)) high) in
-        absurd (omega (arith, none, same y, sum_by-cons (one y) y ys, one_self y)) in
+    let none = none_rising y (z ∷ zs) (less, below_strict y z zs (omega (arith, less)) high) in
+    absurd (omega (arith, none, same y, sum_by-cons (one y) y ys, one_self y)) in
     let no_more : (z < y) → ⊥ = λ less.
-        let none = none_rising z (y ∷ ys) (less, below_rising z y ys less low) in
-        absurd (omega (arith, none, same z, sum_by-cons (one z) z zs, one_self z)) in
+    let none = none_rising z (y ∷ ys) (less, below_rising z y ys less low) in
+    absurd (omega (arith, none, same z, sum_by-cons (one z) z zs, one_self z)) in
     grind (arith, no_less, no_more)
 
 tails : (y z k : ℕ) (ys zs : List ℕ) → y ≡ z → times k (y ∷ ys) ≡ times k (z ∷ zs) → times k ys ≡ times k zs

@@ -1,5 +1,5 @@
 -- Values under numbers, by what is done to the slots and to the numbers.
-use Rattle.std.proofs.Common.{◌≡◌, ◌≢◌, ℕ, zero, suc, ◌+◌, Bool, true, false, cond, List, [], ◌∷◌, length, get_or, inl, inr, refl, ap, sym, subst, ◌∙◌, arith}
+use Rattle.std.proofs.Common.{◌≡◌, ◌≢◌, ℕ, suc, ◌+◌, Bool, true, false, cond, List, [], ◌∷◌, length, get_or, inl, inr, refl, ap, sym, subst, ◌∙◌, arith}
 use Rattle.std.specs.Prelude.{Option, Some, None, is_some, IsSome}
 use Rattle.std.specs.List.{AllByRecursion}
 use Rattle.std.specs.List.Sorted.{IsStrictlySortedBy}
@@ -104,6 +104,8 @@ module _ {T : Type 0} where
   same_held k [] at now same other held = tt
   same_held k (e ∷ es) at now same other held = (ap is_some (same e.1 other.0) ∙ held.0, same_held k es at now same other.1 held.1)
 
+-- THE SLOTS OF THE NUMBERS
+
 other_by : (b : Bool) (slot k : ℕ) (later : Option ℕ) (m : ℕ) → cond b (Some slot) later ≡ Some k → slot ≢ m → (later ≡ Some k → k ≢ m) → k ≢ m
 other_by true slot k later m h here rest = λ same. here (cc)
 other_by false slot k later m h here rest = rest h
@@ -129,13 +131,13 @@ apart_taken : (n : ℕ) (es : List (ℕ × ℕ)) → AreApart es → AreApart (t
 apart_taken n [] apart = tt
 apart_taken n (e ∷ es) apart = apart_taken_by (is_at (nat_cmp n) e.0) n e es apart.0 apart.1 (apart_taken n es apart.1)
 
--- the slot of a number that is taken away is no other's
 gone_by : (b : Bool) (n k : ℕ) (e : ℕ × ℕ) (es : List (ℕ × ℕ)) → AllOther e.1 es → cond b (Some e.1) (lookup (is_at (nat_cmp n)) es) ≡ Some k → (lookup (is_at (nat_cmp n)) es ≡ Some k → AllOther k (taken n es)) → AllOther k (cond b es (e ∷ taken n es))
 gone_by true n k e es other h rest =
     let slot : e.1 ≡ k = cc in
     rw slot at other
 gone_by false n k e es other h rest = (λ here. other_slot n k e.1 es h other (sym here), rest h)
 
+-- the slot of a number that is taken away is no other's
 gone : (n k : ℕ) (es : List (ℕ × ℕ)) → AreApart es → lookup (is_at (nat_cmp n)) es ≡ Some k → AllOther k (taken n es)
 gone n k [] apart h = tt
 gone n k (e ∷ es) apart h = gone_by (is_at (nat_cmp n) e.0) n k e es apart.0 h (gone n k es apart.1)
@@ -144,7 +146,7 @@ absent_by : {X : Type 0} (b : Bool) (e : ℕ × X) (es rest : List (ℕ × X)) (
 absent_by true e es rest later h same = cc
 absent_by false e es rest later h same = ap (λ xs. e ∷ xs) (same h)
 
--- one that is not there
+-- where a number is not there, nothing is taken away
 pub absent_taken : {X : Type 0} (n : ℕ) (es : List (ℕ × X)) → lookup (is_at (nat_cmp n)) es ≡ None → taken n es ≡ es
 absent_taken n [] h = refl
 absent_taken n (e ∷ es) h = absent_by (is_at (nat_cmp n) e.0) e es (taken n es) (lookup (is_at (nat_cmp n)) es) h (absent_taken n es)
@@ -157,10 +159,6 @@ all_inserted_by P Greater n k e es rest new here all later = (here, later)
 all_inserted : (P : ℕ × ℕ → Type 0) (n k : ℕ) (es : List (ℕ × ℕ)) → ((m : ℕ) → P (m, k)) → AllByRecursion P es → AllByRecursion P (insert_entry nat_cmp es n k)
 all_inserted P n k [] new all = (new n, tt)
 all_inserted P n k (e ∷ es) new all = all_inserted_by P (nat_cmp n e.0) n k e es (insert_entry nat_cmp es n k) new all.0 all.1 (all_inserted P n k es new all.1)
-
-turned : (k : ℕ) (es : List (ℕ × ℕ)) → AllOther k es → AllByRecursion (λ q. k ≢ q.1) es
-turned k [] all = tt
-turned k (e ∷ es) all = (λ same. all.0 (sym same), turned k es all.1)
 
 apart_inserted_by : (o : Ordering) (n k : ℕ) (e : ℕ × ℕ) (es : List (ℕ × ℕ)) → e.1 ≢ k → AllOther k es → AllOther e.1 es → AreApart es → AreApart (insert_entry nat_cmp es n k) → AreApart (match_ordering o ((n, k) ∷ e ∷ es) ((e.0, k) ∷ es) (e ∷ insert_entry nat_cmp es n k))
 apart_inserted_by Less n k e es new all other apart rest = ((new, all), (other, apart))

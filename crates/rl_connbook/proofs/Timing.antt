@@ -1,12 +1,12 @@
 -- The deadlines of the records, where a record changes, comes or goes.
-use Rattle.std.proofs.Common.{◌≡◌, ℕ, ◌+◌, ◌^◌, ◌<◌, ◌≤◌, Bool, true, false, cond, List, [], ◌∷◌, ◌++◌, map, refl, ap, sym, subst, ◌∙◌, arith}
-use Rattle.std.specs.Prelude.{Option, Some, None, IsSome, is_some, not, fold}
+use Rattle.std.proofs.Common.{◌≡◌, ℕ, ◌+◌, ◌^◌, ◌<◌, ◌≤◌, Bool, true, false, cond, List, [], ◌∷◌, ◌++◌, refl, ap, sym, subst, ◌∙◌, arith}
+use Rattle.std.specs.Prelude.{Option, Some, None, IsSome, is_some, not}
 use Rattle.std.specs.List.{AllByRecursion, filter}
 use Rattle.std.specs.List.Sorted.{IsStrictlySortedBy}
 use Rattle.std.specs.Ordering.{nat_cmp, match_ordering, is_eq}
 use Rattle.std.specs.declared.cmp.Ordering.{Ordering}
 use Rattle.std.specs.declared.cmp.Ordering.TheVariants.{Less, Equal, Greater}
-use Rattle.std.specs.Map.{lookup, set_value, remove_entry, keys_of}
+use Rattle.std.specs.Map.{lookup, set_value, keys_of}
 use Rattle.std.specs.BTreeMap.{is_at, insert_entry}
 use Rattle.std.proofs.lemmas.Map.{keys-set_value}
 use Rattle.std.proofs.lemmas.Bool.Decides.{nat_tests}
@@ -106,10 +106,10 @@ kept_moved event reply conn given at r new old es ds later opens found made set 
   sound = sound_after event reply conn given r new old es opens found made set kept.sound;
   rises = rises_set conn new old es set kept.rises;
   due =
-    moved (has_deadline conn old r ds kept.due found)
-    ∙ ap (insert_entry nat_cmp ds conn) time
-    ∙ ap (λ (xs : List (ℕ × ℕ)). insert_entry nat_cmp xs conn (due_at new.standing)) kept.due
-    ∙ sym (ap deadlines_of set ∙ moved_set conn r new old kept.rises found);
+      moved (has_deadline conn old r ds kept.due found)
+      ∙ ap (insert_entry nat_cmp ds conn) time
+      ∙ ap (λ (xs : List (ℕ × ℕ)). insert_entry nat_cmp xs conn (due_at new.standing)) kept.due
+      ∙ sym (ap deadlines_of set ∙ moved_set conn r new old kept.rises found);
 }
 
 -- ONE COMES
@@ -223,8 +223,8 @@ kept_new n given word at r es more ds later next small key put time moved kept =
       sound = subst (IsSound n) (sym last) (sound_more n given word r es next small key kept.sound);
       rises = subst (λ (xs : List (ℕ × Record)). IsStrictlySortedBy nat_cmp (keys_of xs)) (sym last) (rises_last n given r es next kept.sound.below kept.rises);
       due =
-        moved
-        ∙ ap (insert_entry nat_cmp ds n) time
-        ∙ ap (λ (xs : List (ℕ × ℕ)). insert_entry nat_cmp xs n (due_at r.standing)) kept.due
-        ∙ sym (ap deadlines_of put ∙ new_deadline n r es);
+          moved
+          ∙ ap (insert_entry nat_cmp ds n) time
+          ∙ ap (λ (xs : List (ℕ × ℕ)). insert_entry nat_cmp xs n (due_at r.standing)) kept.due
+          ∙ sym (ap deadlines_of put ∙ new_deadline n r es);
     }

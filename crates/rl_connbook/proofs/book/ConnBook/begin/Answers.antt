@@ -7,7 +7,7 @@ use Rattle.rl_types.specs.declared.book.BookReply.TheVariants.{Superseded, NoRec
 use Rattle.rl_connbook.specs.Book.{Book, begun, record_at}
 use Rattle.rl_connbook.specs.Steps.{record_after}
 use Rattle.rl_connbook.proofs.Changes.{IsPlain, written, unchanged, at_none, at_late, at_now, begun_opens}
-use Rattle.rl_connbook.proofs.Timing.{kept_after, kept_same, kept_moved}
+use Rattle.rl_connbook.proofs.Timing.{kept_after}
 use Rattle.rl_connbook.proofs.book.ConnBook.begin.Goals as goal
 
 pub returns-in_default-clause-new : goal.returns-in_default-clause-new

@@ -1,4 +1,4 @@
-use Rattle.std.proofs.Common.{◌≡◌, refl, ap, sym, ◌∙◌}
+use Rattle.std.proofs.Common.{◌≡◌, refl, sym}
 use Rattle.std.specs.Prelude.{Some, None}
 use Rattle.rl_types.specs.declared.book.BookEvent.{BookEvent}
 use Rattle.rl_types.specs.declared.book.BookEvent.TheVariants.{Close}
@@ -6,7 +6,7 @@ use Rattle.rl_types.specs.declared.book.BookReply.TheVariants.{Superseded, NoRec
 use Rattle.rl_connbook.specs.Book.{Book, record_at}
 use Rattle.rl_connbook.specs.Steps.{record_after}
 use Rattle.rl_connbook.proofs.Changes.{IsPlain, written, unchanged, at_none, at_late, at_now}
-use Rattle.rl_connbook.proofs.Timing.{kept_after, kept_same, kept_moved}
+use Rattle.rl_connbook.proofs.Timing.{kept_after, kept_moved}
 use Rattle.rl_connbook.proofs.book.ConnBook.close.Goals as goal
 
 pub returns-in_default-clause-new : goal.returns-in_default-clause-new

@@ -1,4 +1,3 @@
-use Rattle.std.proofs.Common.{rules, ◌≡◌, sym, ◌∙◌}
 use Rattle.rl_connbook.proofs.Over.{numbers_sorted}
 use Rattle.rl_connbook.proofs.book.ConnBook.due.Goals as goal
 

@@ -1,15 +1,14 @@
-use Rattle.std.proofs.Common.{rules, ◌≡◌, ℕ, refl, ap, sym, subst, ◌∙◌, List}
+use Rattle.std.proofs.Common.{rules, ◌≡◌, ℕ, refl, ap, sym, List}
 use Rattle.std.specs.Prelude.{Some, None}
 use Rattle.rl_types.specs.declared.book.BookEvent.{BookEvent}
 use Rattle.rl_types.specs.declared.book.BookEvent.TheVariants.{End}
 use Rattle.rl_types.specs.declared.book.BookReply.TheVariants.{Superseded, NoRecord, Done}
 use Rattle.rl_connbook.specs.declared.record.Record.{Record}
-use Rattle.rl_connbook.specs.Sound.{IsSound}
 use Rattle.rl_connbook.specs.Book.{Book, record_at}
 use Rattle.rl_connbook.specs.Steps.{record_after}
 use Rattle.rl_connbook.proofs.Changes.{IsPlain, written, unchanged, same_back, at_none, at_late, at_now}
 use Rattle.rl_connbook.proofs.Opening.{end_none}
-use Rattle.rl_connbook.proofs.Timing.{kept_after, kept_same, kept_moved}
+use Rattle.rl_connbook.proofs.Timing.{kept_after, kept_same}
 use Rattle.rl_connbook.proofs.book.ConnBook.end.Goals as goal
 
 pub returns-in_default-clause-new : goal.returns-in_default-clause-new

@@ -1,4 +1,4 @@
-use Rattle.std.proofs.Common.{rules, ◌≡◌, ap, sym, ◌∙◌}
+use Rattle.std.proofs.Common.{rules, ◌≡◌, ap, ◌∙◌}
 use Rattle.rl_connbook.specs.Book.{Book}
 use Rattle.rl_connbook.specs.Steps.{without_all}
 use Rattle.rl_connbook.specs.Due.{without_deadlines}

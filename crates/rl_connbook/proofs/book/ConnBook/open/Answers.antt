@@ -1,8 +1,5 @@
 use Rattle.std.proofs.Common.{rules, ◌≡◌, ◌+◌, ◌<◌, ◌^◌, true, false, refl, ap, sym, subst, ◌∙◌, arith, List, ℕ}
-use Rattle.std.specs.Prelude.{None, is_err}
-use Rattle.std.specs.Ordering.{nat_cmp}
-use Rattle.std.specs.Map.{lookup}
-use Rattle.std.specs.BTreeMap.{is_at, insert_entry}
+use Rattle.std.specs.Prelude.{is_err}
 use Rattle.rl_deadline.proofs.Putting.{ok_of, err_of}
 use Rattle.rl_connbook.specs.declared.record.Record.{Record}
 use Rattle.rl_connbook.specs.Book.{Book, is_full, key_text}

@@ -1,6 +1,6 @@
-use Rattle.std.proofs.Common.{rules, ◌≡◌, ap, sym, ◌∙◌}
+use Rattle.std.proofs.Common.{ap, ◌∙◌}
 use Rattle.std.specs.List.{filter}
-use Rattle.rl_connbook.specs.Due.{is_over_at, due_numbers}
+use Rattle.rl_connbook.specs.Due.{is_over_at}
 use Rattle.rl_connbook.proofs.Over.{over_is}
 use Rattle.rl_connbook.proofs.book.ConnBook.over.Goals as goal
 

@@ -1,14 +1,14 @@
-use Rattle.std.proofs.Common.{◌≡◌, ℕ, true, false, refl, ap, sym, subst, ◌∙◌, List}
+use Rattle.std.proofs.Common.{◌≡◌, ℕ, true, false, refl, ap, sym, ◌∙◌, List}
 use Rattle.std.specs.Prelude.{Some, None}
 use Rattle.rl_types.specs.declared.book.BookEvent.TheVariants.{Resume}
 use Rattle.rl_types.specs.declared.book.BookReply.TheVariants.{Resumed, KeyUnknown}
 use Rattle.rl_connbook.specs.declared.record.Record.{Record}
 use Rattle.rl_connbook.specs.Records.{raised}
-use Rattle.rl_connbook.specs.Sound.{IsSound, number_in}
+use Rattle.rl_connbook.specs.Sound.{number_in}
 use Rattle.rl_connbook.specs.Book.{Book, record_at}
-use Rattle.rl_connbook.proofs.Changes.{IsPlain, written, untouched, same_back, sound_after}
+use Rattle.rl_connbook.proofs.Changes.{IsPlain, written, untouched, same_back}
 use Rattle.rl_connbook.proofs.Finding.{resumed_none, resumed_one}
-use Rattle.rl_connbook.proofs.Timing.{kept_after, kept_same, kept_moved}
+use Rattle.rl_connbook.proofs.Timing.{kept_same, kept_moved}
 use Rattle.rl_connbook.proofs.book.ConnBook.resume.Goals as goal
 
 pub returns-in_default-clause-reply : goal.returns-in_default-clause-reply

@@ -1,4 +1,4 @@
-use Rattle.std.proofs.Common.{rules, refl, sym, ap, subst, ◌∙◌, ◌≡◌, List, ℕ}
+use Rattle.std.proofs.Common.{refl, sym, ap, subst, ◌∙◌, ◌≡◌, List, ℕ}
 use Rattle.std.specs.Prelude.{Some, None}
 use Rattle.std.specs.Option.{ghost_name_of}
 use Rattle.std.specs.List.Sorted.{IsStrictlySortedBy}

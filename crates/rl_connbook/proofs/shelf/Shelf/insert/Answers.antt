@@ -1,9 +1,9 @@
-use Rattle.std.proofs.Common.{rules, refl, sym, ap, ◌∙◌, ◌≡◌, ◌+◌, length, arith, cond}
-use Rattle.std.specs.Prelude.{Option, Some, None, is_some, false}
+use Rattle.std.proofs.Common.{sym, ap, ◌∙◌, ◌≡◌, ◌+◌, length, cond}
+use Rattle.std.specs.Prelude.{None, is_some}
 use Rattle.std.specs.Map.{lookup}
 use Rattle.std.specs.BTreeMap.{is_at, insert_entry}
 use Rattle.std.specs.Ordering.{nat_cmp}
-use Rattle.slab.specs.Slab.{get, slab_len, Updates}
+use Rattle.slab.specs.Slab.{get}
 use Rattle.rl_connbook.specs.Shelf.{joined, IsShelved}
 use Rattle.rl_connbook.proofs.Shelves.{no_slot, shelved_room, shelved_insert, joined_insert}
 use Rattle.rl_connbook.proofs.shelf.Shelf.insert.Goals as goal
