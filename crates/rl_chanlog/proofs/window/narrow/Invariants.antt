@@ -1,0 +1,16 @@
+use Rattle.std.proofs.Common.{◌≡◌}
+use Rattle.std.specs.Prelude.{sum_by}
+use Rattle.std.specs.VecDeque.{deque_len}
+use Rattle.rl_model.specs.Window.{entry_weight, fits}
+use Rattle.rl_chanlog.specs.Window.{narrowed}
+use Rattle.rl_chanlog.proofs.window.narrow.Given as goal
+
+abbrev pub invariant-loop-earliest : goal.invariant-loop-earliest
+invariant-loop-earliest l =
+    record {
+      weighed : l.left ≡ sum_by entry_weight l.entries.items;
+      same : narrowed fits l.entries.items ≡ narrowed fits l.initial.entries.items;
+    }
+
+abbrev pub decreases-loop-earliest : goal.decreases-loop-earliest
+decreases-loop-earliest l = deque_len l.entries

@@ -1,0 +1,4 @@
+pub mod Ids
+pub mod Keeps
+pub mod Outcomes
+pub mod Window

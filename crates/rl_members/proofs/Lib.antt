@@ -1,0 +1,5 @@
+pub mod Keys
+pub mod Laws
+pub mod Leaving
+pub mod Places
+pub mod Calls
