@@ -10,6 +10,7 @@ use events::event_of;
 use replies::reply_text;
 use rl_channel::Channel;
 use rl_ids::{Epoch, NoMemory, SiteCode, read_site};
+use rl_turnlock::Machine;
 use rl_types::ChannelEvent;
 use std::alloc::Global;
 use std::fs;
@@ -22,7 +23,7 @@ fn new_channel(alloc: Global) -> Result<Channel> {
 }
 
 fn take(alloc: Global, channel: &mut Channel, event: ChannelEvent) -> Result<String> {
-    let taken: Result<_, NoMemory> = channel.step(alloc, event);
+    let taken: Result<_, NoMemory> = channel.take(alloc, event);
     match taken {
         Ok(reply) => reply_text(alloc, &reply),
         Err(NoMemory) => Err(anyhow!("out of memory")),

@@ -59,10 +59,10 @@ impl Channel {
         }
     }
 
-    /// Takes an event and answers what the definition says of the history before it; the channel then stands for
-    /// the history with it. After `NoMemory` it stands for what it stood for, and the event is dropped. Joins,
-    /// ticks and censuses take no memory.
-    pub fn step(&mut self, alloc: Global, event: ChannelEvent) -> Result<ChannelReply, NoMemory>
+    // Takes an event and answers what the definition says of the history before it; the channel then stands for
+    // the history with it. After `NoMemory` it stands for what it stood for, and the event is dropped. Joins,
+    // ticks and censuses take no memory.
+    fn step(&mut self, alloc: Global, event: ChannelEvent) -> Result<ChannelReply, NoMemory>
         ensures ok { IfOk result (λ answer. (past : List events.ChannelEvent) → StandsFor self.old past → (answer ≡ reply self.old.setup.epoch past event) × StandsFor self.new (event ∷ past)) }
         ensures err { OnErr result ((past : List events.ChannelEvent) → StandsFor self.old past → StandsFor self.new past) }
         ensures setup { self.new.setup ≡ self.old.setup }
