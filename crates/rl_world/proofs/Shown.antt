@@ -37,11 +37,12 @@ sound_ends past (Some client) top is sound =
     each_weaker (IsSoundSegment the_epoch past) (λ (segment : Segment). segment_end segment ≤ top) (λ (segment : Segment) one. omega (arith, one.within, is)) client.segments sound.each
 
 -- the findings of what is kept are those of the script
-pub found : (script : List Line) (state : WorldState) (log : ChanLogView) (top : ℕ) (channels : List ChannelFindings) (clients : List ClientFindings)
-    → Shows state (final script) → ((past : List ChannelEvent) → StandsFor state.machine past → Keeps log (parts_of past)) → ((parts : Parts) → Keeps log parts → top ≡ length parts.log)
-    → ((parts : Parts) → Keeps log parts → channels ≡ channels_kept state.channel state.begun parts) → (EndsBy top state.client → clients ≡ clients_shown state.channel state.client)
+pub found : (script : List Line) (state : WorldState) (log other : ChanLogView) (top : ℕ) (channels : List ChannelFindings) (clients : List ClientFindings)
+    → Shows state (final script) → ((past : List ChannelEvent) → StandsFor state.machine past → Keeps log (parts_of past)) → ((past : List ChannelEvent) → StandsFor state.machine past → Keeps other (parts_of past))
+    → ((parts : Parts) → Keeps log parts → top ≡ length parts.log)
+    → ((parts : Parts) → Keeps other parts → channels ≡ channels_kept state.channel state.begun parts) → (EndsBy top state.client → clients ≡ clients_shown state.channel state.client)
     → record { epoch = the_epoch; channels = channels; clients = clients } ≡ findings (final script)
-found script state log top channels clients is keeps at own others =
+found script state log other top channels clients is keeps holds at own others =
     let world : World = final script in
     let parts : Keeps log (parts_of world.past) = keeps world.past is.machine in
     let b : state.begun ≡ is_begun world.past = ap (λ (r : Rest). r.begun) is.rest in
@@ -50,7 +51,7 @@ found script state log top channels clients is keeps at own others =
     let high : top ≡ head world.past = at (parts_of world.past) parts in
     let ends : EndsBy top state.client = subst (λ (x : Option Client). EndsBy top x) (sym c) (sound_ends world.past world.client top high (sound_records script)) in
     let first : channels ≡ channels_shown world.channel world.past =
-    own (parts_of world.past) parts ∙ ap (λ x. channels_kept x state.begun (parts_of world.past)) n ∙ ap (λ x. channels_kept world.channel x (parts_of world.past)) b ∙ kept_shown world.channel world.past in
+    own (parts_of world.past) (holds world.past is.machine) ∙ ap (λ x. channels_kept x state.begun (parts_of world.past)) n ∙ ap (λ x. channels_kept world.channel x (parts_of world.past)) b ∙ kept_shown world.channel world.past in
     let second : clients ≡ clients_shown world.channel world.client =
     others ends ∙ ap (λ x. clients_shown x state.client) n ∙ ap (λ x. clients_shown world.channel x) c in
     ap (λ x. record { epoch = the_epoch; channels = x; clients = clients }) first

@@ -56,6 +56,12 @@ whose state world is = ap (λ (r : Rest). r.client) is.rest
 which : (state : WorldState) (world : World) → Shows state world → state.channel ≡ world.channel
 which state world is = ap (λ (r : Rest). r.channel) is.rest
 
+pub same_shown : (state old : WorldState) (world : World) → state ≡ old → Shows old world → Shows state world
+same_shown state old world same is = subst (λ (s : WorldState). Shows s world) (sym same) is
+
+pub same_entries : (state : WorldState) (world : World) → Shows state world → state.entries ≡ log world.past
+same_entries state world is = ap (λ (r : Rest). r.entries) is.rest
+
 -- the client is another
 with_client_shown : (state : WorldState) (world : World) (client : Client) → Shows state world → Shows (record state { client = Some client }) (with_client world client)
 with_client_shown state world client is = record {
@@ -116,6 +122,33 @@ took_one world event state machine entries is stands setup follow = record {
       ap (λ (r : Rest). record r { entries = entries; begun = true }) is.rest
       ∙ ap (λ all. record (shown world) { entries = all; begun = true }) follow;
 }
+
+-- a message that no client sent was put
+pub fed_one : (world : World) (state old : WorldState) (machine : ChannelState) (entries : List Entry) (serial : ℕ) (body given : Body) → state ≡ old → Shows old world → body ≡ given
+    → ((past : List ChannelEvent) → channels.StandsFor state.machine past → state.entries ≡ log past → channels.StandsFor machine (Put feed_conn serial body 0 ∷ past) × (entries ≡ log (Put feed_conn serial body 0 ∷ past)))
+    → machine.setup ≡ state.machine.setup
+    → Shows (record state { machine = machine; entries = entries; begun = true }) (record world { past = Put feed_conn serial given 0 ∷ world.past })
+fed_one world state old machine entries serial body given same is which_body puts setup =
+    let before = same_shown state old world same is in
+    let put = puts world.past before.machine (same_entries state world before) in
+    subst (λ (b : Body). Shows (record state { machine = machine; entries = entries; begun = true }) (record world { past = Put feed_conn serial b 0 ∷ world.past })) which_body
+    (took_one world (Put feed_conn serial body 0) state machine entries before put.0 setup put.1)
+
+-- one more was fed behind the others
+pub fed_more : (state : WorldState) (world : World) (count first serial : ℕ) (body : Body) → serial ≡ first + count
+    → Shows state (record world { past = Put feed_conn serial body 0 ∷ feed count body first world.past })
+    → Shows state (record world { past = feed (count + 1) body first world.past })
+fed_more state world count first serial body same is =
+    subst (λ past. Shows state (record world { past = past })) (ap (λ n. Put feed_conn n body 0 ∷ feed count body first world.past) same ∙ sym (feed_more count body first world.past)) is
+
+-- all of them were fed, and are counted
+pub fed_all : (state old : WorldState) (world : World) (body : Body) (first count more : ℕ) → state.fed ≡ first → first ≡ old.fed → more ≡ first + count → Shows old world
+    → Shows state (record world { past = feed count body first world.past })
+    → Shows (record state { fed = more }) (record world { fed = world.fed + count; past = feed count body world.fed world.past })
+fed_all state old world body first count more same begins is before shows =
+    let start : first ≡ world.fed = begins ∙ ap (λ (r : Rest). r.fed) before.rest in
+    fed_shown state world (feed count body world.fed world.past) first count more (same ∙ start) start is
+    (subst (λ n. Shows state (record world { past = feed count body n world.past })) start shows)
 
 -- SERVING
 
