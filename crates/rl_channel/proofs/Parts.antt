@@ -19,7 +19,7 @@ use Rattle.rl_model.specs.Window.{first, first_next, first_after, fits, fits_at}
 use Rattle.rl_model.specs.Parts.{Parts, parts_of, with_entry, with_outcome, without_outcome, aged}
 use Rattle.rl_channel.specs.Steps.{settled, settled_parts, gone_parts}
 
-append_none : {A : Type 0} (xs : List A) → xs ++ [] ≡ xs
+pub append_none : {A : Type 0} (xs : List A) → xs ++ [] ≡ xs
 append_none [] = refl
 append_none (x ∷ xs) = ap (λ (ys : List _). x ∷ ys) (append_none xs)
 

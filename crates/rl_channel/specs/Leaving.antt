@@ -1,8 +1,12 @@
 -- What is told of the members that leave with their connection, by their client ids.
-use Rattle.std.specs.Prelude.{ℕ, suc, List, [], ◌∷◌, None}
+use Rattle.std.specs.Prelude.{ℕ, suc, ◌+◌, ◌-◌, ◌^◌, ◌==◌, if◌then◌else◌, List, [], ◌∷◌, Option, Some, None}
 use Rattle.rl_types.specs.declared.presence.PresenceItem.{PresenceItem}
 use Rattle.rl_types.specs.declared.presence.PresenceAction.TheVariants as presence
+use Rattle.rl_types.specs.declared.messages.Body.TheVariants.{Presence}
+use Rattle.rl_types.specs.declared.messages.Entry.{Entry}
 use Rattle.rl_model.specs.Texts.{gone_id}
+use Rattle.rl_model.specs.Members.{presence_of}
+use Rattle.rl_model.specs.Parts.{Parts, with_entry}
 
 abbrev pub leave_of : ℕ → ℕ → List ℕ → ℕ → List ℕ → PresenceItem
 leave_of place now conn index client =
@@ -20,3 +24,26 @@ leave_of place now conn index client =
 abbrev pub leaves_of : ℕ → ℕ → List ℕ → ℕ → List (List ℕ) → List PresenceItem
 leaves_of place now conn index [] = []
 leaves_of place now conn index (client ∷ clients) = leave_of place now conn index client ∷ leaves_of place now conn (suc index) clients
+
+-- the entry that tells of these clients of a connection, where there are some and the log is not full
+abbrev pub left_entry : ℕ → ℕ → ℕ → List ℕ → List (List ℕ) → Option Entry
+left_entry head now conn id [] = None
+left_entry head now conn id (client ∷ clients) =
+    if head == 2 ^ 64 - 2 then None
+    else Some (record {
+      place = head + 1;
+      stamp = now;
+      conn = conn;
+      serial = None;
+      body = Presence (leaves_of (head + 1) now id 0 (client ∷ clients));
+    })
+
+-- what is kept with that entry
+abbrev pub with_left : Option Entry → Parts → Parts
+with_left (Some entry) parts = with_entry entry None parts
+with_left None parts = parts
+
+-- its presence items
+abbrev pub left_items : Option Entry → List PresenceItem
+left_items (Some entry) = presence_of entry.body
+left_items None = []

@@ -1,10 +1,12 @@
 -- What a Put is answered, and what events make of what a channel keeps.
-use Rattle.std.specs.Prelude.{◌≡◌, List, ℕ, ◌+◌, Option, Some, None, nat_lt, ◌==◌, if◌then◌else◌}
+use Rattle.std.specs.Prelude.{◌≡◌, List, ℕ, ◌+◌, ◌-◌, ◌&&◌, Bool, false, nat_le, Option, Some, None, nat_lt, ◌==◌, if◌then◌else◌}
 use Rattle.rl_types.specs.declared.channel.ChannelEvent.{ChannelEvent}
 use Rattle.rl_types.specs.declared.channel.Verdict.{Verdict}
 use Rattle.rl_types.specs.declared.channel.Verdict.TheVariants.{Done, Old}
 use Rattle.rl_types.specs.declared.channel.Outcome.{Outcome}
 use Rattle.rl_types.specs.declared.channel.Outcome.TheVariants.{Taken, Refused}
+use Rattle.rl_types.specs.declared.messages.Given.{Given}
+use Rattle.rl_types.specs.declared.messages.Given.TheVariants.{Ours, Other}
 use Rattle.rl_types.specs.declared.messages.Body.{Body}
 use Rattle.rl_types.specs.declared.messages.Entry.{Entry}
 use Rattle.rl_model.specs.Verdict.{Judgement, Stale, Again, Known, Fails, Adds, judged_by_serial, judged_by_id, judged_by_rules, decisions, head, kept, remembered_of}
@@ -42,3 +44,8 @@ gone_parts conn None parts = without_outcome conn parts
 abbrev pub Passes : List ChannelEvent → ℕ → ℕ → Body → Type 0
 Passes past conn serial body =
     settled (head past) (early serial (kept conn (decisions past)) (remembered_of body (decisions past)) (head past) body Adds) ≡ None
+
+-- the serial is of this epoch, and its place is retained in a log with this first place and this head
+abbrev pub goes_on : ℕ → ℕ → ℕ → Option Given → Bool
+goes_on epoch first head (Some (Ours serial)) = serial.epoch == epoch && (nat_le (first - 1) serial.place && nat_le serial.place head)
+goes_on epoch first head _ = false

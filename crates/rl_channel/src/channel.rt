@@ -1,23 +1,24 @@
-ghost use Rattle.std.specs.Prelude.{◌≡◌, ◌≢◌, ◌+◌, ◌-◌, ◌^◌, ◌<◌, ◌≤◌, ◌∷◌, [], List, IfOk, OnOk, OnErr, length, max, Option, Some, None};
+ghost use Rattle.std.specs.Prelude.{◌≡◌, ◌≢◌, ◌||◌, ◌==◌, not, if◌then◌else◌, ◌+◌, ◌-◌, ◌^◌, ◌<◌, ◌≤◌, ◌∷◌, [], List, IfOk, OnOk, OnErr, length, max, Option, Some, None};
 ghost use Rattle.rl_types.specs.declared.channel.ChannelEvent.{ChannelEvent};
 ghost use Rattle.rl_types.specs.declared.channel.Outcome.TheVariants.{Taken};
 ghost use Rattle.rl_types.specs.declared.channel.Verdict.TheVariants.{Done};
-ghost use Rattle.rl_model.specs.Members.{members};
+ghost use Rattle.std.specs.Option.{option_copied};
+ghost use Rattle.rl_model.specs.Members.{is_last_page, members, page_items};
 ghost use Rattle.rl_model.specs.Parts.{Parts, parts_of, with_entry, with_outcome};
-ghost use Rattle.rl_model.specs.Reply.{is_resumed, joined_place};
+ghost use Rattle.rl_model.specs.Reply.{asked_place, is_resumed, joined_place, read_reply};
 ghost use Rattle.rl_model.specs.Verdict.{Adds, decisions, head, kept, log, remembered_of, verdict};
 ghost use Rattle.rl_chanlog.specs.Keeps.{Keeps};
 ghost use Rattle.rl_channel.specs.State.{StandsFor};
-ghost use Rattle.rl_channel.specs.Steps.{early, settled, settled_parts, Passes};
+ghost use Rattle.rl_channel.specs.Steps.{early, goes_on, settled, settled_parts, Passes};
 ghost use Rattle.rl_channel.specs.Changes.{changed};
 
 use crate::changes::{After, after_put, change};
 use crate::filling::{copied_id, filled, given_id};
 use crate::judging::judged_early;
 use rl_chanlog::ChanLog;
-use rl_ids::{ConnNo, Epoch, Moment, NoMemory, Place, SiteCode, Text};
+use rl_ids::{ConnNo, Epoch, List, MemberKey, Moment, NoMemory, Place, SiteCode, Text};
 use rl_members::Members;
-use rl_types::{Body, Entry, Given, Outcome, Verdict};
+use rl_types::{Body, Entry, Given, Outcome, PresenceItem, ReadReply, Verdict};
 use std::alloc::Global;
 use std::marker::Model;
 
@@ -52,10 +53,10 @@ const MEMBER_LIMIT: Verdict = Verdict::Done(Outcome::Refused(105));
 /// the window holds. A put of presence copies the members first, so that all its items change them or none.
 #[derive(Drop)]
 pub struct Channel {
-    setup: ChannelSetup,
-    log: ChanLog,
-    members: Members,
-    clock: Moment,
+    pub(crate) setup: ChannelSetup,
+    pub(crate) log: ChanLog,
+    pub(crate) members: Members,
+    pub(crate) clock: Moment,
 }
 
 impl Model for Channel {
@@ -91,7 +92,7 @@ impl Channel {
     }
 
     // The clock after an event.
-    fn clock_at(&self, now: Moment) -> Moment
+    pub(crate) fn clock_at(&self, now: Moment) -> Moment
         ensures value { result ≡ max now self.now.clock }
         ensures later { self.now.log.newest ≤ result }
     {
@@ -241,4 +242,119 @@ fn marks_of(entry: &Entry) -> (ConnNo, Outcome, Moment)
     ensures { result ≡ (entry.now.conn, Taken entry.now.place, entry.now.stamp) }
 {
     (entry.conn, Outcome::Taken(entry.place), entry.stamp)
+}
+
+impl Channel {
+    /// Where a session begins that asks with this serial, or with none (RTL4c1, RTL12): the place asked for where
+    /// the serial is of this run's epoch and its place is retained, else the head. It takes no memory, and
+    /// changes nothing: the channel stands for the history with the join too.
+    pub fn join(&self, asked: &Option<Given>) -> Joined
+        ensures place { (past : List ChannelEvent) → StandsFor self.now past → result.place ≡ joined_place self.now.setup.epoch past asked.now }
+        ensures resumed { (past : List ChannelEvent) → StandsFor self.now past → result.resumed ≡ is_resumed self.now.setup.epoch past asked.now }
+        ensures presence { (past : List ChannelEvent) → StandsFor self.now past → result.presence ≡ (not (result.place == head past) || not (length (members (log past)) == 0)) }
+        ensures stands { (past : List ChannelEvent) → StandsFor self.now past → StandsFor self.now (ChannelEvent.Join asked.now ∷ past) }
+    {
+        let head = self.log.head();
+        let resumed = self.resumes(asked);
+        let place = asked_place(asked, resumed, head);
+        Joined {
+            place,
+            resumed,
+            presence: place != head || self.members.count() != 0,
+        }
+    }
+
+    // A serial is given, it is of this run's epoch, and its place is retained.
+    fn resumes(&self, asked: &Option<Given>) -> bool
+        ensures { (past : List ChannelEvent) → StandsFor self.now past → result ≡ is_resumed self.now.setup.epoch past asked.now }
+    {
+        goes_on(
+            self.setup.epoch,
+            self.log.first().0,
+            self.log.head().0,
+            asked,
+        )
+    }
+}
+
+// The serial is of this epoch, and its place is retained in a log with this first place and this head.
+fn goes_on(epoch: Epoch, first: u64, head: u64, asked: &Option<Given>) -> bool
+    requires { 1 ≤ first }
+    ensures { result ≡ goes_on epoch first head asked.now }
+{
+    match asked {
+        Some(Given::Ours(serial)) => {
+            serial.epoch == epoch && first - 1 <= serial.place.0 && serial.place.0 <= head
+        }
+        _ => false,
+    }
+}
+
+// The place asked for where the session goes on from it, else the head.
+fn asked_place(asked: &Option<Given>, resumed: bool, head: Place) -> Place
+    ensures { result ≡ (if resumed then asked_place asked.now else head) }
+{
+    match asked {
+        Some(Given::Ours(serial)) if resumed => serial.place,
+        None if resumed => Place(0),
+        Some(Given::Other(_)) if resumed => Place(0),
+        _ => head,
+    }
+}
+
+/// A page of the members (RTP18).
+#[derive(Debug, Drop, PartialEq, Eq)]
+pub struct MemberPage {
+    /// The members, each as PRESENT, in order of key.
+    pub items: List<PresenceItem>,
+    /// None remain after them.
+    pub last: bool,
+    /// The place of the last entry when the page was made.
+    pub head: Place,
+}
+
+impl Channel {
+    /// The first entries after a place, at most `max` of them; or `NotRetained` with the least place that is
+    /// retained, exactly where the entries after the place are not all retained or the place is past the head.
+    /// The channel stands for the history with the read too.
+    pub fn read(&self, alloc: Global, from: Place, max: usize) -> Result<ReadReply, NoMemory>
+        ensures value { IfOk result (λ answer. (past : List ChannelEvent) → StandsFor self.now past → answer ≡ read_reply past from max) }
+        ensures stands { (past : List ChannelEvent) → StandsFor self.now past → StandsFor self.now (ChannelEvent.Read from max ∷ past) }
+    {
+        self.log.read(alloc, from, max)
+    }
+
+    /// The first members past a key, at most `max` of them (RTP18). The channel stands for the history with the
+    /// page too.
+    pub fn member_page(
+        &self,
+        alloc: Global,
+        after: Option<&MemberKey>,
+        max: usize,
+    ) -> Result<MemberPage, NoMemory>
+        ensures items { IfOk result (λ page. (past : List ChannelEvent) → StandsFor self.now past → page.items ≡ page_items (option_copied after.entry) max (members (log past))) }
+        ensures last { IfOk result (λ page. (past : List ChannelEvent) → StandsFor self.now past → page.last ≡ is_last_page (option_copied after.entry) max (members (log past))) }
+        ensures head { IfOk result (λ page. (past : List ChannelEvent) → StandsFor self.now past → page.head ≡ head past) }
+        ensures stands { (past : List ChannelEvent) → StandsFor self.now past → StandsFor self.now (ChannelEvent.MemberPage (option_copied after.entry) max ∷ past) }
+    {
+        let (items, last) = self.members.after(alloc, after, max)?;
+        let head = self.log.head();
+        Ok(MemberPage { items, last, head })
+    }
+
+    /// How many members stand.
+    pub fn member_count(&self) -> usize
+        ensures { (past : List ChannelEvent) → StandsFor self.now past → result ≡ length (members (log past)) }
+    {
+        self.members.count()
+    }
+
+    /// Time passes: entries older than 120,000 ms are not retained any more (RTN15g). It takes no memory.
+    pub fn tick(&mut self, now: Moment)
+        ensures stands { (past : List ChannelEvent) → StandsFor self.old past → StandsFor self.new (ChannelEvent.Tick now ∷ past) }
+        ensures setup { self.new.setup ≡ self.old.setup }
+    {
+        self.clock = self.clock_at(now);
+        self.log.age(self.clock);
+    }
 }

@@ -4,7 +4,9 @@
 mod changes;
 mod channel;
 mod filling;
+mod going;
 mod judging;
 mod leaving;
+mod machine;
 
-pub use channel::{Channel, ChannelSetup, Joined};
+pub use channel::{Channel, ChannelSetup, Joined, MemberPage};

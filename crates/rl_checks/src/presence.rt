@@ -1,10 +1,9 @@
-// Presence items: how they are judged, filled and printed.
+// Presence items, printed.
 use rl_ids::{ConnNo, Copied, Epoch, List, Moment, NoMemory, Place, Text};
-use rl_plainchannel::PlainChannel;
 use rl_report::report;
 use rl_types::{
     Body, ChanState, ChannelFindings, ChannelView, ClientFindings, ConnState, Entry, Findings,
-    Outcome, PresenceAction, PresenceItem, Record, Verdict,
+    PresenceAction, PresenceItem, Record,
 };
 use std::alloc::Global;
 
@@ -24,59 +23,6 @@ fn list<T: Drop>(alloc: Global, one: T) -> Result<List<T>, NoMemory> {
     let mut all = List::new(alloc);
     all.push(one)?;
     Ok(all)
-}
-
-fn put(
-    alloc: Global,
-    channel: &mut PlainChannel,
-    serial: u64,
-    action: PresenceAction,
-    client: &str,
-) -> Result<Verdict, NoMemory> {
-    let items = list(alloc, item(alloc, action, client)?)?;
-    channel.put(alloc, ConnNo(1), serial, Body::Presence(items), Moment(7))
-}
-
-fn refused(code: u32) -> Verdict {
-    Verdict::Done(Outcome::Refused(code))
-}
-
-#[test]
-fn presence_is_judged(rt: HostRuntime) -> Result<(), NoMemory> {
-    let mut channel = PlainChannel::new(rt.alloc(), Epoch(1));
-    let enter = PresenceAction::Enter;
-    let taken = Verdict::Done(Outcome::Taken(Place(1)));
-    assert!(rt; put(rt.alloc(), &mut channel, 0, enter, "a")? == taken);
-    assert!(rt; put(rt.alloc(), &mut channel, 1, enter, "")? == refused(114));
-    let present = PresenceAction::Present;
-    assert!(rt; put(rt.alloc(), &mut channel, 2, present, "a")? == refused(115));
-    assert_eq!(rt; channel.head().0, 1);
-    Ok(())
-}
-
-// The first item of the last entry's body.
-fn first_item(alloc: Global, channel: &PlainChannel) -> Result<Option<PresenceItem>, NoMemory> {
-    match channel.entries().last() {
-        Some(entry) => match &entry.body {
-            Body::Presence(items) => match items.get(0) {
-                Some(item) => Ok(Some(item.copy(alloc)?)),
-                None => Ok(None),
-            },
-            Body::Messages(_) => Ok(None),
-        },
-        None => Ok(None),
-    }
-}
-
-#[test]
-fn presence_is_filled(rt: HostRuntime) -> Result<(), NoMemory> {
-    let mut channel = PlainChannel::new(rt.alloc(), Epoch(1));
-    put(rt.alloc(), &mut channel, 4, PresenceAction::Leave, "a")?;
-    let mut wanted = item(rt.alloc(), PresenceAction::Leave, "a")?;
-    wanted.id = Text::from_str(rt.alloc(), "c00000001:4:0")?;
-    wanted.stamp = Moment(7);
-    assert!(rt; first_item(rt.alloc(), &channel)? == Some(wanted));
-    Ok(())
 }
 
 fn entry(alloc: Global) -> Result<Entry, NoMemory> {

@@ -13,10 +13,10 @@ use Rattle.rl_connbook.specs.Book.{is_over}
 use Rattle.rl_connbook.specs.Steps.{without, without_all}
 use Rattle.rl_connbook.proofs.Finding.{numbers_over}
 
-not_at : (n q : ℕ) → nat_cmp q n ≡ Less → is_at (nat_cmp n) q ≡ false
+pub not_at : (n q : ℕ) → nat_cmp q n ≡ Less → is_at (nat_cmp n) q ≡ false
 not_at n q h = grind (arith, nat_tests)
 
-at_self : (n : ℕ) → is_at (nat_cmp n) n ≡ true
+pub at_self : (n : ℕ) → is_at (nat_cmp n) n ≡ true
 at_self n = grind (arith, nat_tests)
 
 first_stays : (e : ℕ × Record) (es : List (ℕ × Record)) (ns : List ℕ) → AllByRecursion (λ n. nat_cmp e.0 n ≡ Less) ns → without_all (e ∷ es) ns ≡ e ∷ without_all es ns

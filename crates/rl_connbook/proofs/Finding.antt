@@ -1,5 +1,5 @@
 -- A record found by the number in its key, and a new one behind the others.
-use Rattle.std.proofs.Common.{◌≡◌, ℕ, zero, suc, ◌+◌, ◌*◌, ◌/◌, ◌%◌, ◌^◌, ◌<◌, ◌≤◌, Bool, true, false, cond, List, [], ◌∷◌, ◌++◌, length, take, map, refl, ap, sym, subst, ◌∙◌, arith, append_assoc}
+use Rattle.std.proofs.Common.{◌≡◌, ℕ, zero, suc, ◌+◌, ◌*◌, ◌/◌, ◌%◌, ◌^◌, ◌<◌, ◌≤◌, Bool, true, false, cond, List, [], ◌∷◌, ◌++◌, length, take, map, refl, ap, sym, subst, ◌∙◌, arith}
 use Rattle.std.specs.Prelude.{◌&&◌, Option, Some, None, if◌then◌else◌, find, bytes_eq}
 use Rattle.std.specs.List.{AllByRecursion, filter}
 use Rattle.std.specs.List.Sorted.{IsStrictlySortedBy}
@@ -148,20 +148,3 @@ sound_more k given word r es is small key sound = record {
 
 abbrev pub numbers_over : ℕ → List (ℕ × Record) → List ℕ
 numbers_over now es = map (λ e. e.0) (filter (λ e. is_over now e.1) es)
-
-over_by : (e : ℕ × Record) (xs : List (ℕ × Record)) (b c : Bool) → b ≡ c → map (λ e. e.0) (cond b (e ∷ xs) xs) ≡ cond c (e.0 ∷ map (λ (e : ℕ × Record). e.0) xs) (map (λ (e : ℕ × Record). e.0) xs)
-over_by e xs true c h = ap (λ (b : Bool). cond b (e.0 ∷ map (λ (e : ℕ × Record). e.0) xs) (map (λ (e : ℕ × Record). e.0) xs)) h
-over_by e xs false c h = ap (λ (b : Bool). cond b (e.0 ∷ map (λ (e : ℕ × Record). e.0) xs) (map (λ (e : ℕ × Record). e.0) xs)) h
-
-over_one : (now : ℕ) (e : ℕ × Record) (rest it : List (ℕ × Record)) (b : Bool) → it ≡ e ∷ rest → is_over now e.1 ≡ b → numbers_over now it ≡ cond b (e.0 ∷ numbers_over now rest) (numbers_over now rest)
-over_one now e rest it b is over = ap (numbers_over now) is ∙ over_by e (filter (λ e. is_over now e.1) rest) (is_over now e.1) b over
-
-pub over_taken : (now : ℕ) (e : ℕ × Record) (rest it : List (ℕ × Record)) (conns more all : List ℕ) → it ≡ e ∷ rest → is_over now e.1 ≡ true → more ≡ conns ++ e.0 ∷ [] → conns ++ numbers_over now it ≡ all → more ++ numbers_over now rest ≡ all
-over_taken now e rest it conns more all is over pushed h =
-    ap (λ (xs : List ℕ). xs ++ numbers_over now rest) pushed
-    ∙ append_assoc conns (e.0 ∷ []) (numbers_over now rest)
-    ∙ ap (λ (xs : List ℕ). conns ++ xs) (sym (over_one now e rest it true is over))
-    ∙ h
-
-pub over_passed : (now : ℕ) (e : ℕ × Record) (rest it : List (ℕ × Record)) (conns all : List ℕ) → it ≡ e ∷ rest → is_over now e.1 ≡ false → conns ++ numbers_over now it ≡ all → conns ++ numbers_over now rest ≡ all
-over_passed now e rest it conns all is over h = ap (λ (xs : List ℕ). conns ++ xs) (sym (over_one now e rest it false is over)) ∙ h

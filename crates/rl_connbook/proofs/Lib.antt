@@ -4,3 +4,7 @@ pub mod Changes
 pub mod Finding
 pub mod Opening
 pub mod Expiring
+pub mod Shelves
+pub mod Timing
+pub mod Coming
+pub mod Over

@@ -1,19 +1,22 @@
-ghost use Rattle.std.specs.Prelude.{◌≡◌, ℕ, [], true, map, Some, IfOk, OnOk, OnErr, IsOk};
+ghost use Rattle.std.specs.Prelude.{◌≡◌, ℕ, [], true, map, Some, IfOk, OnOk, OnErr, IsOk, IsSome};
 ghost use Rattle.std.specs.List.{filter};
 ghost use Rattle.std.specs.List.Sorted.{IsStrictlySortedBy};
-ghost use Rattle.std.specs.Map.{keys_of};
+ghost use Rattle.std.specs.Map.{keys_of, lookup};
+ghost use Rattle.std.specs.BTreeMap.{is_at, insert_entry};
 ghost use Rattle.std.specs.Ordering.{nat_cmp};
 ghost use Rattle.rl_types.specs.declared.book.BookEvent.{BookEvent};
 ghost use Rattle.rl_connbook.specs.Book.{told, book_after, is_full, is_over, is_spare};
 ghost use Rattle.rl_connbook.specs.Steps.{after, without_all};
+ghost use Rattle.rl_connbook.specs.Due.{is_over_at, due_numbers, without_deadlines};
 
 use crate::keys::{key_text, number_in};
 use crate::record::Record;
+use crate::shelf::Shelf;
+use rl_deadline::Deadlines;
 use rl_ids::{ConnNo, Copied, List, Moment, NoMemory, Text};
 use rl_turnlock::Machine;
 use rl_types::{BookEvent, BookReply, Outcome};
 use std::alloc::Global;
-use std::collections::BTreeMap;
 use std::marker::Model;
 
 // the most connections that stand at a time
@@ -40,35 +43,61 @@ const MAX_RECORDS: usize = 1024;
 ///
 /// `Begin` and `Lost` take no memory and are always answered. After `NoMemory` the book is as before.
 ///
-/// With n connections, a record is found by its number in steps of about the logarithm of n. By its key it is
-/// found the same way: a key has the number in its place, and the keys are then compared. Beside that,
-/// `Begin` below the expected serial looks at the outcomes that are kept, at most 1,024, and `End` may move
-/// them. `Expire` looks at each record once, and removes those that are over one by one.
+/// No event looks at all connections. With n of them, a record stands in a slot of a slab, and its number leads to
+/// the slot in steps of about the logarithm of n. `Resume` finds it by its key the same way: a key has the number
+/// in its place, and the two keys are then compared. What each event costs beside that:
+///
+/// - `Begin` below the expected serial looks at the outcomes that are kept, at most 1,024, and `End` may move them.
+/// - `Open`, `Resume`, `Lost` and `Close` put the connection's deadline in its place among the others: a search by
+///   halves, and a move of at most 16 bytes for each of n in one piece.
+/// - `Expire` looks at the connections whose deadline has come, and at one deadline more: a live one has no
+///   deadline before 2^64 - 1, a lost one has it 120 seconds after the loss, a closed one at once. It sorts their
+///   numbers, tests each, and removes each one that is over, which costs as much as a `Close`. One that has a call
+///   in flight keeps its deadline, and is tested again by the next `Expire`.
 #[derive(Drop)]
 pub struct ConnBook {
     given: u32,
-    records: BTreeMap<u32, Record>,
+    records: Shelf<Record>,
+    // from when each may be over
+    deadlines: Deadlines,
 }
 
 impl Model for ConnBook {
     ghost use Rattle.rl_connbook.specs.Book.{Book};
-    ghost use Rattle.rl_connbook.specs.Sound.{IsSound};
+    ghost use Rattle.rl_connbook.specs.Due.{IsKept};
 
     ghost Value = { Book };
 
-    ghost view = { λ b. record { given = b.given; records = b.records.entries } };
+    ghost view = { λ b. record { given = b.given; records = b.records } };
 
-    ghost invariant = { λ b. IsSound b.given b.records.entries };
+    ghost invariant = { λ b. IsKept b.given b.records b.deadlines };
 }
 
 // Removes the records of these connections.
 #[tactic(auto, using(std::proofs::lemmas::List::Sums::fold_push))]
-fn remove_all(records: &mut BTreeMap<u32, Record>, conns: &[ConnNo])
-    ensures entries { records.new.entries ≡ without_all records.old.entries conns.now }
+fn remove_all(records: &mut Shelf<Record>, conns: &[ConnNo])
+    ensures { records.new ≡ without_all records.old conns.now }
 {
     for conn in conns {
-        records.remove(&conn.0);
+        records.remove(conn.0);
     }
+}
+
+// Cancels the deadlines of these connections.
+#[tactic(auto, using(std::proofs::lemmas::List::Sums::fold_push))]
+fn cancel_all(deadlines: &mut Deadlines, conns: &[ConnNo])
+    ensures { deadlines.new ≡ without_deadlines deadlines.old conns.now }
+{
+    for conn in conns {
+        deadlines.cancel(conn.0);
+    }
+}
+
+// Gives a connection that has a deadline another one, which takes no memory and is always answered Ok.
+fn postpone(deadlines: &mut Deadlines, number: u32, at: Moment)
+    ensures { IsSome (lookup (is_at (nat_cmp number)) deadlines.old) → deadlines.new ≡ insert_entry nat_cmp deadlines.old number at }
+{
+    deadlines.set(number, at).ok();
 }
 
 impl ConnBook {
@@ -79,7 +108,8 @@ impl ConnBook {
     {
         Ok(ConnBook {
             given: 0,
-            records: BTreeMap::new(alloc),
+            records: Shelf::new(alloc),
+            deadlines: Deadlines::new(alloc),
         })
     }
 
@@ -90,7 +120,8 @@ impl ConnBook {
         self.records.len() >= MAX_RECORDS || self.given == u32::MAX
     }
 
-    // All memory is taken before the first change.
+    // The key, its copy and the deadline are made before the record. Where the memory for the record ends, the
+    // deadline is cancelled, which takes none.
     fn open(&mut self, alloc: Global, word: u64) -> Result<BookReply, NoMemory>
         ensures reply { (now : ℕ) → IfOk result (λ reply. reply ≡ told self.old (BookEvent.Open word now)) }
         ensures new { (now : ℕ) → OnOk result (self.new ≡ after self.old (BookEvent.Open word now)) }
@@ -105,7 +136,12 @@ impl ConnBook {
         let conn = self.given + 1;
         let key = key_text(alloc, conn, word)?;
         let shown = key.copy(alloc)?;
-        self.records.insert(conn, Record::new(alloc, key))?;
+        let record = Record::new(alloc, key);
+        self.deadlines.set(conn, record.due())?;
+        if self.records.insert(conn, record).is_err() {
+            self.deadlines.cancel(conn);
+            return Err(NoMemory);
+        }
         self.given = conn;
         Ok(BookReply::Opened {
             conn: ConnNo(conn),
@@ -119,16 +155,19 @@ impl ConnBook {
         ensures new { (now : ℕ) → self.new ≡ after self.old (BookEvent.Resume key.now now) }
     {
         let number = number_in(key.as_bytes());
-        let Some(record) = self.records.get_mut(&number) else {
+        let Some(record) = self.records.get_mut(number) else {
             return BookReply::KeyUnknown;
         };
         if !record.may_resume(key) {
             return BookReply::KeyUnknown;
         }
         record.resume();
+        let generation = record.generation;
+        let due = record.due();
+        postpone(&mut self.deadlines, number, due);
         BookReply::Resumed {
             conn: ConnNo(number),
-            generation: record.generation,
+            generation,
         }
     }
 
@@ -136,7 +175,7 @@ impl ConnBook {
         ensures reply { result ≡ told self.old (BookEvent.Begin conn generation serial) }
         ensures new { self.new ≡ after self.old (BookEvent.Begin conn generation serial) }
     {
-        let Some(record) = self.records.get_mut(&conn.0) else {
+        let Some(record) = self.records.get_mut(conn.0) else {
             return BookReply::NoRecord;
         };
         if generation < record.generation {
@@ -158,7 +197,7 @@ impl ConnBook {
         ensures new { OnOk result (self.new ≡ after self.old (BookEvent.End conn generation serial outcome)) }
         ensures err { OnErr result (self.new ≡ self.old) }
     {
-        let Some(record) = self.records.get_mut(&conn.0) else {
+        let Some(record) = self.records.get_mut(conn.0) else {
             return Ok(BookReply::NoRecord);
         };
         let newer = record.generation;
@@ -174,7 +213,7 @@ impl ConnBook {
         ensures reply { result ≡ told self.old (BookEvent.Lost conn generation now) }
         ensures new { self.new ≡ after self.old (BookEvent.Lost conn generation now) }
     {
-        let Some(record) = self.records.get_mut(&conn.0) else {
+        let Some(record) = self.records.get_mut(conn.0) else {
             return BookReply::NoRecord;
         };
         if generation < record.generation {
@@ -183,6 +222,8 @@ impl ConnBook {
             };
         }
         record.lose(now);
+        let due = record.due();
+        postpone(&mut self.deadlines, conn.0, due);
         BookReply::Done
     }
 
@@ -190,7 +231,7 @@ impl ConnBook {
         ensures reply { result ≡ told self.old (BookEvent.Close conn generation) }
         ensures new { self.new ≡ after self.old (BookEvent.Close conn generation) }
     {
-        let Some(record) = self.records.get_mut(&conn.0) else {
+        let Some(record) = self.records.get_mut(conn.0) else {
             return BookReply::NoRecord;
         };
         if generation < record.generation {
@@ -199,21 +240,55 @@ impl ConnBook {
             };
         }
         record.close();
+        let due = record.due();
+        postpone(&mut self.deadlines, conn.0, due);
         BookReply::Done
+    }
+
+    // Whether the connection with this number is there and over.
+    fn is_over(&self, number: u32, now: Moment) -> bool
+        ensures { result ≡ is_over_at now self.now.records number }
+    {
+        match self.records.get(number) {
+            Some(record) => record.is_over(now),
+            None => false,
+        }
+    }
+
+    // Those of these connections that are over.
+    fn over_among(
+        &self,
+        alloc: Global,
+        numbers: &[u32],
+        now: Moment,
+    ) -> Result<List<ConnNo>, NoMemory>
+        ensures { IfOk result (λ conns. conns ≡ filter (is_over_at now self.now.records) numbers.now) }
+    {
+        let mut conns = List::new(alloc);
+        for number in numbers {
+            if self.is_over(*number, now) {
+                conns.push(ConnNo(*number))?;
+            }
+        }
+        Ok(conns)
+    }
+
+    // The numbers of the connections whose deadline has come, in order. Those that are over are among them.
+    fn due(&self, alloc: Global, now: Moment) -> Result<List<u32>, NoMemory>
+        ensures numbers { IfOk result (λ numbers. numbers ≡ due_numbers now self.now.records) }
+        ensures ordered { IsStrictlySortedBy nat_cmp (keys_of self.now.records) }
+    {
+        let mut numbers = self.deadlines.due(alloc, now)?;
+        numbers.sort()?;
+        Ok(numbers)
     }
 
     // The connections that are over, in order.
     fn over(&self, alloc: Global, now: Moment) -> Result<List<ConnNo>, NoMemory>
-        ensures conns { IfOk result (λ conns. conns ≡ map (λ e. e.0) (filter (λ e. is_over now e.1) self.now.records)) }
-        ensures ordered { IsStrictlySortedBy nat_cmp (keys_of self.now.records) }
+        ensures { IfOk result (λ conns. conns ≡ map (λ e. e.0) (filter (λ e. is_over now e.1) self.now.records)) }
     {
-        let mut conns = List::new(alloc);
-        for (conn, record) in self.records.iter() {
-            if record.is_over(now) {
-                conns.push(ConnNo(*conn))?;
-            }
-        }
-        Ok(conns)
+        let numbers = self.due(alloc, now)?;
+        self.over_among(alloc, numbers.as_slice(), now)
     }
 
     fn expire(&mut self, alloc: Global, now: Moment) -> Result<BookReply, NoMemory>
@@ -223,6 +298,7 @@ impl ConnBook {
     {
         let conns = self.over(alloc, now)?;
         remove_all(&mut self.records, conns.as_slice());
+        cancel_all(&mut self.deadlines, conns.as_slice());
         Ok(BookReply::Expired(conns))
     }
 

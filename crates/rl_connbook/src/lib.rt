@@ -5,6 +5,7 @@ mod book;
 mod keys;
 pub mod laws;
 mod record;
+mod shelf;
 #[cfg(test)]
 mod tests;
 

@@ -4,6 +4,7 @@ ghost use Rattle.rl_types.specs.declared.book.BookReply.TheVariants.{Resumed, Do
 ghost use Rattle.rl_connbook.specs.Records.{latest, lowered, raised, is_open, expected_after, outcomes_after};
 ghost use Rattle.rl_connbook.specs.Book.{begun, may_resume, kept_outcome, is_over};
 ghost use Rattle.rl_connbook.specs.Steps.{record_after, new_record};
+ghost use Rattle.rl_connbook.specs.Due.{due_at};
 
 use rl_ids::{List, Moment, NoMemory, Text};
 use rl_types::{BookReply, Outcome};
@@ -77,6 +78,17 @@ impl Record {
             Standing::Live => false,
             Standing::LostSince(since) => { now.0 >= STATE_TTL && since.0 <= now.0 - STATE_TTL }
             Standing::Closed => true,
+        }
+    }
+
+    // The moment from which Expire may take the record.
+    pub fn due(&self) -> Moment
+        ensures { result ≡ due_at self.now.standing }
+    {
+        match self.standing {
+            Standing::Live => Moment(u64::MAX),
+            Standing::LostSince(since) => Moment(since.0.saturating_add(STATE_TTL)),
+            Standing::Closed => Moment(0),
         }
     }
 

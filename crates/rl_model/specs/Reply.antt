@@ -34,6 +34,11 @@ read_reply past from most =
     then NotRetained (first past)
     else Run (take most (drop from (log past)))
 
+-- the place of the entry that tells of the members that leave with their connection, where there is one
+abbrev pub gone_place : List ChannelEvent → ℕ → ℕ → Option ℕ
+gone_place past conn now =
+    option_map (λ (e : Entry). e.place) (decided (max now (clock past)) (decisions past) (Gone conn now)).entry
+
 -- what a channel of this epoch answers to an event after a history. Members may be there where the session
 -- begins before the head; the root is an object
 abbrev pub reply : ℕ → List ChannelEvent → ChannelEvent → ChannelReply
@@ -43,7 +48,6 @@ reply epoch past (Join asked) =
     replies.Joined (record { epoch = epoch; place = place }) (is_resumed epoch past asked) (not (place == head past) || not (length (members (log past)) == 0)) false
 reply epoch past (Read from most) = replies.Read (read_reply past from most)
 reply epoch past (MemberPage after most) = replies.Members (page_items after most (members (log past))) (is_last_page after most (members (log past))) (head past)
-reply epoch past (Gone conn now) =
-    replies.Gone (option_map (λ (e : Entry). e.place) (decided (max now (clock past)) (decisions past) (Gone conn now)).entry)
+reply epoch past (Gone conn now) = replies.Gone (gone_place past conn now)
 reply epoch past (Tick now) = replies.Ticked
 reply epoch past Census = replies.Census (first past) (head past) (length (members (log past))) 1

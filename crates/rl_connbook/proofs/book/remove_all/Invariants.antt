@@ -4,4 +4,4 @@ use Rattle.rl_connbook.proofs.book.remove_all.Given as goal
 
 -- the records of the connections so far are gone
 abbrev pub invariant-loop-conn : goal.invariant-loop-conn
-invariant-loop-conn l = l.records.entries ≡ without_all l.initial.records.entries (take l.conn-index l.conns)
+invariant-loop-conn l = l.records ≡ without_all l.initial.records (take l.conn-index l.conns)

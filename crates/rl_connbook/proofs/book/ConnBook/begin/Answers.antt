@@ -6,53 +6,54 @@ use Rattle.rl_types.specs.declared.book.BookReply.{BookReply}
 use Rattle.rl_types.specs.declared.book.BookReply.TheVariants.{Superseded, NoRecord}
 use Rattle.rl_connbook.specs.Book.{Book, begun, record_at}
 use Rattle.rl_connbook.specs.Steps.{record_after}
-use Rattle.rl_connbook.proofs.Changes.{IsPlain, written, unchanged, sound_after, at_none, at_late, at_now, begun_opens}
+use Rattle.rl_connbook.proofs.Changes.{IsPlain, written, unchanged, at_none, at_late, at_now, begun_opens}
+use Rattle.rl_connbook.proofs.Timing.{kept_after}
 use Rattle.rl_connbook.proofs.book.ConnBook.begin.Goals as goal
 
 pub returns-in_default-clause-new : goal.returns-in_default-clause-new
 returns-in_default-clause-new c =
     let conn = c.conn.inside.0 in
-    let book : Book = record { given = c.self.inside.given; records = c.self.inside.records.entries } in
+    let book : Book = record { given = c.self.inside.given; records = c.self.inside.records } in
     let event : BookEvent = Begin conn c.args.generation c.args.serial in
     let found : record_at conn book ≡ None = sym c.in_default.ensures.value in
-    rw (← c.self.view_is, ← c.conn.view_is) (ap (λ m. record { given = c.self.inside.given; records = m.entries }) c.get_mut.follows.holds-at-none ∙ unchanged event NoRecord book (at_none c.args.generation (begun c.args.serial) (record_at conn book) found) refl (λ es. refl) (λ r. refl))
+    rw (← c.self.view_is, ← c.conn.view_is) (unchanged event NoRecord book (at_none c.args.generation (begun c.args.serial) (record_at conn book) found) refl (λ es. refl) (λ r. refl))
 
 pub invariant_of-self-then-generation-record : goal.invariant_of-self-then-generation-record
 invariant_of-self-then-generation-record c =
     let conn = c.conn.inside.0 in
-    let book : Book = record { given = c.self.inside.given; records = c.self.inside.records.entries } in
+    let book : Book = record { given = c.self.inside.given; records = c.self.inside.records } in
     let event : BookEvent = Begin conn c.args.generation c.args.serial in
     let r = c.in-Some.record.now in
     let found : record_at conn book ≡ Some r = sym c.in-Some.ensures.value in
-    sound_after event (Superseded r.generation) conn c.self.inside.given r r book.records _ refl found refl (c.get_mut.follows.holds r).0 c.self.invariant
+    kept_after event (Superseded r.generation) conn c.self.inside.given r r book.records _ c.self.inside.deadlines refl refl found refl refl c.self.invariant
 
 pub returns-then-generation-record-clause-new : goal.returns-then-generation-record-clause-new
 returns-then-generation-record-clause-new c =
     let conn = c.conn.inside.0 in
-    let book : Book = record { given = c.self.inside.given; records = c.self.inside.records.entries } in
+    let book : Book = record { given = c.self.inside.given; records = c.self.inside.records } in
     let event : BookEvent = Begin conn c.args.generation c.args.serial in
     let r = c.in-Some.record.now in
     let found : record_at conn book ≡ Some r = sym c.in-Some.ensures.value in
     let plain : IsPlain event (Superseded r.generation) conn = record { of = λ n. refl; opens = refl; stays = λ es. refl } in
-    rw (← c.self.view_is, ← c.conn.view_is) (written event (Superseded r.generation) conn book r r _ plain (at_late c.args.generation (begun c.args.serial) (record_at conn book) r found c.if-generation-record.true) c.get_mut.ensures.ordered found refl (c.get_mut.follows.holds r).0)
+    rw (← c.self.view_is, ← c.conn.view_is) (written event (Superseded r.generation) conn book r r _ plain (at_late c.args.generation (begun c.args.serial) (record_at conn book) r found c.if-generation-record.true) c.get_mut.ensures.ordered found refl refl)
 
 pub invariant_of-self-2 : goal.invariant_of-self-2
 invariant_of-self-2 c =
     let conn = c.conn.inside.0 in
-    let book : Book = record { given = c.self.inside.given; records = c.self.inside.records.entries } in
+    let book : Book = record { given = c.self.inside.given; records = c.self.inside.records } in
     let event : BookEvent = Begin conn c.args.generation c.args.serial in
     let r = c.in-Some.record.now in
     let found : record_at conn book ≡ Some r = sym c.in-Some.ensures.value in
     let made : c.begin.new.self ≡ record_after event (begun c.args.serial r) r = c.begin.ensures.new conn c.args.generation ∙ ap (λ (p : BookReply). record_after event p r) c.begin.ensures.reply in
-    sound_after event (begun c.args.serial r) conn c.self.inside.given r c.begin.new.self book.records _ (begun_opens c.args.serial r) found made (c.get_mut.follows.holds c.begin.new.self).0 c.self.invariant
+    kept_after event (begun c.args.serial r) conn c.self.inside.given r c.begin.new.self book.records _ c.self.inside.deadlines (begun_opens c.args.serial r) refl found made refl c.self.invariant
 
 pub returns-clause-new : goal.returns-clause-new
 returns-clause-new c =
     let conn = c.conn.inside.0 in
-    let book : Book = record { given = c.self.inside.given; records = c.self.inside.records.entries } in
+    let book : Book = record { given = c.self.inside.given; records = c.self.inside.records } in
     let event : BookEvent = Begin conn c.args.generation c.args.serial in
     let r = c.in-Some.record.now in
     let found : record_at conn book ≡ Some r = sym c.in-Some.ensures.value in
     let plain : IsPlain event (begun c.args.serial r) conn = record { of = λ n. refl; opens = begun_opens c.args.serial r; stays = λ es. refl } in
     let made : c.begin.new.self ≡ record_after event (begun c.args.serial r) r = c.begin.ensures.new conn c.args.generation ∙ ap (λ (p : BookReply). record_after event p r) c.begin.ensures.reply in
-    rw (← c.self.view_is, ← c.conn.view_is) (written event (begun c.args.serial r) conn book r c.begin.new.self _ plain (at_now c.args.generation (begun c.args.serial) (record_at conn book) r found c.if-generation-record.false) c.get_mut.ensures.ordered found made (c.get_mut.follows.holds c.begin.new.self).0)
+    rw (← c.self.view_is, ← c.conn.view_is) (written event (begun c.args.serial r) conn book r c.begin.new.self _ plain (at_now c.args.generation (begun c.args.serial) (record_at conn book) r found c.if-generation-record.false) c.get_mut.ensures.ordered found made refl)
