@@ -88,9 +88,12 @@ changed_shown change old new world is shows = subst (λ (s : WorldState). Shows 
           ∙ ap (λ (r : Rest). record r { client = Some (change client) }) shows.rest;
     }
 
--- a client is declared
-pub client_shown : (state : WorldState) (world : World) (client new : Client) → new ≡ client → Shows state world → Shows (record state { client = Some new }) (record world { client = Some client })
+client_shown : (state : WorldState) (world : World) (client new : Client) → new ≡ client → Shows state world → Shows (record state { client = Some new }) (record world { client = Some client })
 client_shown state world client new same is = subst (λ (c : Client). Shows (record state { client = Some c }) (record world { client = Some client })) (sym same) (with_client_shown state world client is)
+
+-- a client is declared
+pub declared_shown : (old new : WorldState) (world : World) (client : Client) → new ≡ record old { client = Some client } → Shows old world → Shows new (record world { client = Some client })
+declared_shown old new world client is shows = same_shown new (record old { client = Some client }) (record world { client = Some client }) is (with_client_shown old world client shows)
 
 -- the channel is named
 pub named_shown : (old new : WorldState) (world : World) (channel : List ℕ) → new ≡ record old { channel = named old.channel channel } → Shows old world → Shows new (record world { channel = named world.channel channel })

@@ -14,7 +14,7 @@ ghost use Rattle.rl_world.specs.State.{Shows, StandsFor, MayFollow};
 ghost use Rattle.rl_world.specs.Ready.{MakesReady, TakesSent};
 ghost use Rattle.rl_world.specs.Travels.{AllTravel, CanTravel, IsNamed, IsSmallWorld, SendsSmall};
 ghost use Rattle.rl_world.specs.Steps.{acted, with_conn};
-ghost use Rattle.rl_model.specs.Client.{opened, dropped};
+ghost use Rattle.rl_model.specs.Client.{new_client, opened, dropped};
 
 use crate::client::{attach, channel_of, dropped, make_ready, new_client, opened, publish};
 use crate::findings::{channels_of, clients_of};
@@ -242,6 +242,13 @@ impl World {
         Ok(())
     }
 
+    fn declare(&mut self, alloc: Global, name: &Text) -> Result<(), NoMemory>
+        ensures { OnOk result (self.new ≡ record self.old { client = Some (new_client name.now) }) }
+    {
+        self.client = Some(new_client(alloc, name)?);
+        Ok(())
+    }
+
     fn open(&mut self)
         ensures { self.new ≡ with_conn opened self.old }
     {
@@ -277,7 +284,7 @@ impl World {
         ensures { OnOk result ((world : model.World) → Shows self.old world → MayFollow world line.now → Shows self.new (model.after_line world line.now)) }
     {
         match line {
-            Line::Client(name) => self.client = Some(new_client(alloc, name)?),
+            Line::Client(name) => self.declare(alloc, name)?,
             Line::Open(_) => self.open(),
             Line::Cut(_) => self.cut(),
             Line::Act(_, command) => {
