@@ -13,7 +13,6 @@ use Rattle.rl_model.specs.Client.{connected, opened, dropped, act, channel_of}
 use Rattle.rl_model.specs.World.{World, empty_world, with_client, serve_for, serve_next, finish, serve_all, settle, settle_in, changed, named, after_line, final}
 use Rattle.rl_model.specs.Script.{fed, fed_by}
 use Rattle.rl_claims.proofs.Sound.{sound_records}
-use Rattle.rl_world.specs.State.{WorldState, shown, MayFollow}
 
 served_fed : (client : Option Client) (world : World) (sent : Sent) → (serve_for world client sent).fed ≡ world.fed
 served_fed None world sent = refl

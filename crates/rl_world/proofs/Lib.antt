@@ -1,3 +1,4 @@
+pub mod Added
 pub mod Fed
 pub mod Places
 pub mod Shown

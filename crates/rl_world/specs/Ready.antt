@@ -9,7 +9,7 @@ use Rattle.rl_ids.specs.Forms.{conn_text}
 use Rattle.rl_types.specs.declared.findings.Answer.{Answer}
 use Rattle.rl_types.specs.declared.findings.Answer.TheVariants.{Ack, Nack}
 use Rattle.rl_model.specs.World.{World, with_client, the_conn}
-use Rattle.rl_world.specs.State.{WorldState, shown}
+use Rattle.rl_world.specs.State.{WorldState, Shows}
 
 -- a connecting client is connected, and a connected one stays; no other is to be served
 abbrev pub IsReady : ConnState → Client → Client → Bool → Type 0
@@ -18,13 +18,13 @@ IsReady Connected old new is = (is ≡ true) × (new ≡ old)
 IsReady _ old new is = (is ≡ false) × (new ≡ old)
 
 abbrev pub IsReadyFrom : ConnState → World → Client → WorldState → Bool → Type 0
-IsReadyFrom Connecting world client new is = (is ≡ true) × (new ≡ shown (with_client world (connected client)))
-IsReadyFrom Connected world client new is = (is ≡ true) × (new ≡ shown (with_client world client))
-IsReadyFrom _ world client new is = (is ≡ false) × (new ≡ shown world)
+IsReadyFrom Connecting world client new is = (is ≡ true) × Shows new (with_client world (connected client))
+IsReadyFrom Connected world client new is = (is ≡ true) × Shows new (with_client world client)
+IsReadyFrom _ world client new is = (is ≡ false) × Shows new world
 
 -- the same of a world, which may have no client
 abbrev pub MakesReady : World → Option Client → WorldState → Bool → Type 0
-MakesReady world None new is = (is ≡ false) × (new ≡ shown world)
+MakesReady world None new is = (is ≡ false) × Shows new world
 MakesReady world (Some client) new is = IsReadyFrom client.conn world client new is
 
 abbrev pub TakesFrom : Option Client → WorldState → WorldState → List Sent → Type 0

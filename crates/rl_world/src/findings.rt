@@ -2,42 +2,44 @@ ghost use Rattle.std.specs.Prelude.{◌≡◌, ◌-◌, Bool, List, Option, IfOk
 ghost use Rattle.std.specs.Option.{option_to_list};
 ghost use Rattle.rl_model.specs.Findings.{client_shown, clients_shown, conn_shown, held_serial, is_attached, view_of, views_in};
 ghost use Rattle.rl_model.specs.Client.{pending};
+ghost use Rattle.rl_model.specs.Parts.{Parts, retained};
+ghost use Rattle.rl_chanlog.specs.Keeps.{Keeps};
 ghost use Rattle.rl_world.specs.Ends.{EndBy, EndsBy};
 ghost use Rattle.rl_world.specs.Kept.{channel_kept, channels_kept};
 
-use crate::records::{held, rest_of};
+use crate::records::held;
 use crate::serving::CLIENT;
-use rl_ids::{ChannelSerial, Copied, List, NoMemory, Text, write_conn};
+use rl_chanlog::ChanLog;
+use rl_ids::{ChannelSerial, Copied, List, NoMemory, Place, Text, write_conn};
 use rl_model::Client;
-use rl_plainchannel::PlainChannel;
-use rl_types::{ChanState, ChannelFindings, ChannelView, ClientFindings, Given, Record};
+use rl_types::{ChanState, ChannelFindings, ChannelView, ClientFindings, Entry, Given, ReadReply, Record};
 use std::alloc::Global;
 
-fn copy_all<T: Copied + Drop>(alloc: Global, items: &[T]) -> Result<List<T>, NoMemory>
-    ensures { IfOk result (λ made. made ≡ items.now) }
+// All entries that are retained.
+fn retained(alloc: Global, log: &ChanLog) -> Result<List<Entry>, NoMemory>
+    ensures { IfOk result (λ entries. (parts : Parts) → Keeps log.now parts → entries ≡ retained parts) }
 {
-    let mut made = List::new(alloc);
-    for item in items {
-        made.push(item.copy(alloc)?)?;
+    let before = Place(log.first().0 - 1);
+    match log.read(alloc, before, log.len()) {
+        Ok(ReadReply::Run(entries)) => Ok(entries),
+        Ok(ReadReply::NotRetained(_)) => Ok(List::new(alloc)),
+        Err(fault) => Err(fault),
     }
-    Ok(made)
 }
 
 // What the channel shows.
 fn channel_findings(
     alloc: Global,
     name: &Text,
-    machine: &PlainChannel,
+    log: &ChanLog,
 ) -> Result<ChannelFindings, NoMemory>
-    ensures { IfOk result (λ shown. shown ≡ channel_kept name.now machine.now) }
+    ensures { IfOk result (λ shown. (parts : Parts) → Keeps log.now parts → shown ≡ channel_kept name.now parts) }
 {
-    let first = machine.first();
-    let kept = rest_of(machine.entries().as_slice(), first.0.saturating_sub(1));
     Ok(ChannelFindings {
         name: name.copy(alloc)?,
-        first,
-        head: machine.head(),
-        entries: copy_all(alloc, kept)?,
+        first: log.first(),
+        head: log.head(),
+        entries: retained(alloc, log)?,
     })
 }
 
@@ -138,13 +140,13 @@ pub fn channels_of(
     alloc: Global,
     name: &Option<Text>,
     begun: bool,
-    machine: &PlainChannel,
+    log: &ChanLog,
 ) -> Result<List<ChannelFindings>, NoMemory>
-    ensures { IfOk result (λ shown. shown ≡ channels_kept name.now begun machine.now) }
+    ensures { IfOk result (λ shown. (parts : Parts) → Keeps log.now parts → shown ≡ channels_kept name.now begun parts) }
 {
     let mut channels = List::new(alloc);
     match name {
-        Some(name) if begun => channels.push(channel_findings(alloc, name, machine)?)?,
+        Some(name) if begun => channels.push(channel_findings(alloc, name, log)?)?,
         _ => {}
     }
     Ok(channels)

@@ -50,7 +50,7 @@ fn segment_end(segment: &Segment) -> u64
 }
 
 // The entries behind a place.
-pub fn rest_of(log: &[Entry], place: u64) -> &[Entry]
+fn rest_of(log: &[Entry], place: u64) -> &[Entry]
     ensures rest { result.now ≡ drop place log.now }
     ensures few { length log.now < 2 ^ 64 }
 {

@@ -1,16 +1,20 @@
-ghost use Rattle.std.specs.Prelude.{◌≡◌, ◌<◌, ◌^◌, ◌++◌, ◌∷◌, List, Some, OnOk, IfOk};
+ghost use Rattle.std.specs.Prelude.{◌≡◌, ◌<◌, ◌^◌, ◌++◌, ◌∷◌, List, Some, length, OnOk, IfOk};
 ghost use Rattle.std.specs.Option.{option_to_list};
 ghost use Rattle.rl_types.specs.declared.channel.ChannelEvent.{ChannelEvent};
-ghost use Rattle.rl_model.specs.Verdict.{decisions, verdict};
+ghost use Rattle.rl_model.specs.Parts.{Parts, read_in};
+ghost use Rattle.rl_model.specs.Verdict.{decisions, log, verdict};
 ghost use Rattle.rl_model.specs.World.{answer_of, one_message, the_conn, feed_conn};
-ghost use Rattle.rl_plainchannel.specs.State.{StandsFor};
+ghost use Rattle.rl_chanlog.specs.Keeps.{Keeps};
+ghost use Rattle.rl_channel.specs.State.{StandsFor};
+ghost use Rattle.rl_world.specs.Kept.{followed};
 ghost use Rattle.rl_world.specs.Ready.{acknowledgement};
 
 use crate::travel::answer_arrives;
-use rl_ids::{ConnNo, Copied, List, Moment, NoMemory, Text, write_conn};
+use rl_chanlog::ChanLog;
+use rl_channel::Channel;
+use rl_ids::{ConnNo, Copied, List, Moment, NoMemory, Place, Text, write_conn};
 use rl_model::Client;
-use rl_plainchannel::PlainChannel;
-use rl_types::{Answer, Body, Item, Outcome, Verdict};
+use rl_types::{Answer, Body, Entry, Item, Outcome, ReadReply, Verdict};
 use std::alloc::Global;
 
 /// The connection of a script's client.
@@ -34,19 +38,54 @@ fn acknowledged(alloc: Global, serial: u64, code: Option<u32>) -> Result<Option<
     }))
 }
 
+// The entry behind these follows them, where the log has one and it is retained.
+fn follow(alloc: Global, log: &ChanLog, entries: &mut List<Entry>) -> Result<(), NoMemory>
+    ensures { OnOk result ((parts : Parts) → Keeps log.now parts → entries.new ≡ followed (read_in parts (length entries.old) 1) entries.old) }
+{
+    let last = Place(entries.len() as u64);
+    match log.read(alloc, last, 1) {
+        Ok(ReadReply::Run(more)) => entries.append(more),
+        Ok(ReadReply::NotRetained(_)) => Ok(()),
+        Err(fault) => Err(fault),
+    }
+}
+
+// A message is put, and the entry that it adds follows these. What it added is always retained: a body that is
+// not too long is far below what the window may weigh.
+fn put(
+    alloc: Global,
+    machine: &mut Channel,
+    entries: &mut List<Entry>,
+    conn: ConnNo,
+    serial: u64,
+    body: Body,
+) -> Result<Verdict, NoMemory>
+    ensures decided { IfOk result (λ answer. (past : List ChannelEvent) → StandsFor machine.old past → entries.old ≡ log past →
+        (answer ≡ verdict (decisions past) conn serial body)
+        × StandsFor machine.new (ChannelEvent.Put conn serial body 0 ∷ past)
+        × (entries.new ≡ log (ChannelEvent.Put conn serial body 0 ∷ past))) }
+    ensures setup { machine.new.setup ≡ machine.old.setup }
+{
+    let answer = machine.put(alloc, conn, serial, body, Moment(0))?;
+    follow(alloc, machine.log(), entries)?;
+    Ok(answer)
+}
+
 // A message of the client is put, and acknowledged.
 pub fn put_message(
     alloc: Global,
-    machine: &mut PlainChannel,
+    machine: &mut Channel,
+    entries: &mut List<Entry>,
     serial: u64,
     body: Body,
 ) -> Result<Option<Answer>, NoMemory>
-    ensures decided { IfOk result (λ answer. (past : List ChannelEvent) → serial < 2 ^ 53 → StandsFor machine.old past →
+    ensures decided { IfOk result (λ answer. (past : List ChannelEvent) → serial < 2 ^ 53 → StandsFor machine.old past → entries.old ≡ log past →
         (option_to_list answer ≡ answer_of serial (verdict (decisions past) the_conn serial body))
-        × StandsFor machine.new (ChannelEvent.Put the_conn serial body 0 ∷ past)) }
-    ensures epoch { machine.new.epoch ≡ machine.old.epoch }
+        × StandsFor machine.new (ChannelEvent.Put the_conn serial body 0 ∷ past)
+        × (entries.new ≡ log (ChannelEvent.Put the_conn serial body 0 ∷ past))) }
+    ensures setup { machine.new.setup ≡ machine.old.setup }
 {
-    match machine.put(alloc, CLIENT, serial, body, Moment(0)) {
+    match put(alloc, machine, entries, CLIENT, serial, body) {
         Ok(Verdict::Done(Outcome::Taken(_))) => acknowledged(alloc, serial, None),
         Ok(Verdict::Done(Outcome::Refused(code))) => acknowledged(alloc, serial, Some(code)),
         Ok(Verdict::Old) => Ok(None),
@@ -57,15 +96,17 @@ pub fn put_message(
 // A message that no client sent is put.
 pub fn put_fed(
     alloc: Global,
-    machine: &mut PlainChannel,
+    machine: &mut Channel,
+    entries: &mut List<Entry>,
     serial: u64,
     body: Body,
 ) -> Result<(), NoMemory>
-    ensures decided { OnOk result ((past : List ChannelEvent) → StandsFor machine.old past →
-        StandsFor machine.new (ChannelEvent.Put feed_conn serial body 0 ∷ past)) }
-    ensures epoch { machine.new.epoch ≡ machine.old.epoch }
+    ensures decided { OnOk result ((past : List ChannelEvent) → StandsFor machine.old past → entries.old ≡ log past →
+        StandsFor machine.new (ChannelEvent.Put feed_conn serial body 0 ∷ past)
+        × (entries.new ≡ log (ChannelEvent.Put feed_conn serial body 0 ∷ past))) }
+    ensures setup { machine.new.setup ≡ machine.old.setup }
 {
-    match machine.put(alloc, FEED, serial, body, Moment(0)) {
+    match put(alloc, machine, entries, FEED, serial, body) {
         Ok(_) => Ok(()),
         Err(fault) => Err(fault),
     }

@@ -8,22 +8,23 @@ ghost use Rattle.rl_model.specs.Limits.{AreSmallLines};
 ghost use Rattle.rl_model.specs.Records.{the_epoch};
 ghost use Rattle.rl_model.specs.Reply.{is_resumed, joined_place};
 ghost use Rattle.rl_model.specs.declared.plain.Sent.TheVariants.{Asks, Sends};
+ghost use Rattle.rl_channel.specs.State as channels;
 ghost use Rattle.rl_claims.specs.Sound.{HasSoundRecords};
-ghost use Rattle.rl_world.specs.State.{shown, StandsFor, MayFollow};
+ghost use Rattle.rl_world.specs.State.{Shows, StandsFor, MayFollow};
 ghost use Rattle.rl_world.specs.Ready.{MakesReady, TakesSent};
 ghost use Rattle.rl_world.specs.Travels.{AllTravel, CanTravel, IsNamed, IsSmallWorld, SendsSmall};
 ghost use Rattle.rl_world.specs.Steps.{acted, with_conn};
-ghost use Rattle.rl_model.specs.Client.{opened, dropped};
+ghost use Rattle.rl_model.specs.Client.{new_client, opened, dropped};
 
 use crate::client::{attach, channel_of, dropped, make_ready, new_client, opened, publish};
 use crate::findings::{channels_of, clients_of};
 use crate::records::{EPOCH, begin_segment, get_entries};
 use crate::serving::{one_message, push_answer, put_fed, put_message};
 use crate::travel::{attached_arrives, sent_arrives};
-use rl_ids::{Copied, List, NoMemory, Place, Text};
+use rl_channel::Channel;
+use rl_ids::{Copied, List, NoMemory, Place, SiteCode, Text, read_site};
 use rl_model::{Client, Sent};
-use rl_plainchannel::PlainChannel;
-use rl_types::{Body, ChanState, Command, Findings, Given, Line, Script};
+use rl_types::{Body, ChanState, Command, Entry, Findings, Given, Line, Script};
 use std::alloc::Global;
 use std::marker::Model;
 use std::mem;
@@ -31,7 +32,9 @@ use std::mem;
 /// The world of a script: a channel machine, the channel's name, and the client.
 #[derive(Drop)]
 pub struct World {
-    machine: PlainChannel,
+    machine: Channel,
+    // all entries of the channel, in order: a client that is behind the machine's window still gets them
+    entries: List<Entry>,
     begun: bool,
     fed: u64,
     channel: Option<Text>,
@@ -44,25 +47,31 @@ impl Model for World {
     ghost Value = { WorldState };
 
     ghost view = { λ w.
-        record { machine = w.machine; begun = w.begun; fed = w.fed; channel = w.channel; client = w.client } };
+        record { machine = w.machine; entries = w.entries; begun = w.begun; fed = w.fed; channel = w.channel; client = w.client } };
+}
+
+// The site at which every script runs.
+fn site() -> SiteCode {
+    read_site("s1").unwrap()
 }
 
 impl World {
-    fn new(alloc: Global) -> World
-        ensures { result ≡ shown model.empty_world }
+    fn new(alloc: Global) -> Result<World, NoMemory>
+        ensures { IfOk result (λ made. Shows made model.empty_world) }
     {
-        World {
-            machine: PlainChannel::new(alloc, EPOCH),
+        Ok(World {
+            machine: Channel::new(alloc, EPOCH, site())?,
+            entries: List::new(alloc),
             begun: false,
             fed: 0,
             channel: None,
             client: None,
-        }
+        })
     }
 
     // An ATTACH is answered: the client's segments go on, or a new one begins.
     fn join(&mut self, alloc: Global, asked: Option<Given>) -> Result<(), NoMemory>
-        ensures { OnOk result ((world : model.World) → self.old ≡ shown world → IsNamed world.channel → self.new ≡ shown (model.serve_next world (Asks asked))) }
+        ensures { OnOk result ((world : model.World) → Shows self.old world → IsNamed world.channel → Shows self.new (model.serve_next world (Asks asked))) }
     {
         let Some((place, resumed)) = self.attached_arrives(alloc, &asked)? else {
             return Ok(());
@@ -75,36 +84,36 @@ impl World {
         Ok(())
     }
 
-    // What arrives at the client of the answer to an ATTACH with this serial.
+    // What arrives at the client of the answer to an ATTACH with this serial. The machine takes the join.
     fn attached_arrives(
         &self,
         alloc: Global,
         asked: &Option<Given>,
     ) -> Result<Option<(Place, bool)>, NoMemory>
-        ensures { IfOk result (λ told. (world : model.World) → self.now ≡ shown world → IsNamed world.channel →
-            told ≡ Some (joined_place the_epoch world.past asked.now, is_resumed the_epoch world.past asked.now)) }
+        ensures { IfOk result (λ told. (world : model.World) → Shows self.now world → IsNamed world.channel →
+            (told ≡ Some (joined_place the_epoch world.past asked.now, is_resumed the_epoch world.past asked.now))
+            × channels.StandsFor self.now.machine (ChannelEvent.Join asked.now ∷ world.past)) }
     {
         let Some(name) = &self.channel else {
             return Ok(None);
         };
         let joined = self.machine.join(asked);
-        let presence = joined.place != self.machine.head();
         attached_arrives(
             alloc,
             name,
             joined.place,
             joined.resumed,
-            presence,
+            joined.presence,
             asked.is_some(),
         )
     }
 
     // A message of the client is taken up and acknowledged.
     fn take_message(&mut self, alloc: Global, serial: u64, body: Body) -> Result<(), NoMemory>
-        ensures { OnOk result ((world : model.World) → self.old ≡ shown world → serial < 2 ^ 53 → self.new ≡ shown (model.serve_next world (Sends serial body))) }
+        ensures { OnOk result ((world : model.World) → Shows self.old world → serial < 2 ^ 53 → Shows self.new (model.serve_next world (Sends serial body))) }
     {
         if let Some(client) = &mut self.client {
-            let answer = put_message(alloc, &mut self.machine, serial, body)?;
+            let answer = put_message(alloc, &mut self.machine, &mut self.entries, serial, body)?;
             push_answer(client, answer)?;
             self.begun = true;
         }
@@ -122,7 +131,7 @@ impl World {
     }
 
     fn serve(&mut self, alloc: Global, sent: Sent) -> Result<(), NoMemory>
-        ensures { OnOk result ((world : model.World) → self.old ≡ shown world → CanTravel world.channel sent → self.new ≡ shown (model.serve_next world sent)) }
+        ensures { OnOk result ((world : model.World) → Shows self.old world → CanTravel world.channel sent → Shows self.new (model.serve_next world sent)) }
     {
         match self.sent_arrives(alloc, sent)? {
             Some(Sent::Asks(asked)) => self.join(alloc, asked),
@@ -133,7 +142,7 @@ impl World {
 
     // All that was sent is served in order.
     fn serve_all(&mut self, alloc: Global, all: List<Sent>) -> Result<(), NoMemory>
-        ensures { OnOk result ((world : model.World) → self.old ≡ shown world → AllTravel world.channel all → self.new ≡ shown (fold model.serve_next world all)) }
+        ensures { OnOk result ((world : model.World) → Shows self.old world → AllTravel world.channel all → Shows self.new (fold model.serve_next world all)) }
     {
         for sent in all.into_vec() {
             self.serve(alloc, sent)?;
@@ -143,23 +152,22 @@ impl World {
 
     // An attached client gets every later entry.
     fn finish(&mut self, alloc: Global) -> Result<(), NoMemory>
-        ensures { OnOk result ((world : model.World) (most : ℕ) → self.old ≡ shown world → IsSmallWorld most world → self.new ≡ shown (model.finish world world.client)) }
+        ensures { OnOk result ((world : model.World) (most : ℕ) → Shows self.old world → IsSmallWorld most world → Shows self.new (model.finish world world.client)) }
     {
         let Some(name) = &self.channel else {
             return Ok(());
         };
         if let Some(client) = &mut self.client {
-            let entries = self.machine.entries().as_slice();
-            get_entries(alloc, name, client, entries)?;
+            get_entries(alloc, name, client, self.entries.as_slice())?;
         }
         Ok(())
     }
 
     // Connects a connecting client. Whether there is a connected one, which is to be served.
     fn make_ready(&mut self, alloc: Global) -> Result<bool, NoMemory>
-        ensures { IfOk result (λ is. (world : model.World) → self.old ≡ shown world → HasSoundRecords world → MakesReady world world.client self.new is) }
+        ensures { IfOk result (λ is. (world : model.World) → Shows self.old world → HasSoundRecords world → MakesReady world world.client self.new is) }
     {
-        let head = self.machine.head().0;
+        let head = self.machine.log().head().0;
         match &mut self.client {
             Some(client) => make_ready(alloc, client, head),
             None => Ok(false),
@@ -177,7 +185,7 @@ impl World {
     }
 
     fn settle(&mut self, alloc: Global) -> Result<(), NoMemory>
-        ensures { OnOk result ((world : model.World) → self.old ≡ shown world → HasSoundRecords world → SendsSmall world → self.new ≡ shown (model.settle world world.client)) }
+        ensures { OnOk result ((world : model.World) → Shows self.old world → HasSoundRecords world → SendsSmall world → Shows self.new (model.settle world world.client)) }
     {
         if !self.make_ready(alloc)? {
             return Ok(());
@@ -198,11 +206,11 @@ impl World {
 
     // A message that no client sent is put, with this serial.
     fn feed_one(&mut self, alloc: Global, serial: u64, text: &Text) -> Result<(), NoMemory>
-        ensures { OnOk result ((world : model.World) → self.old ≡ shown world →
-            self.new ≡ shown (record world { past = ChannelEvent.Put model.feed_conn serial (model.one_message text.now) 0 ∷ world.past })) }
+        ensures { OnOk result ((world : model.World) → Shows self.old world →
+            Shows self.new (record world { past = ChannelEvent.Put model.feed_conn serial (model.one_message text.now) 0 ∷ world.past })) }
     {
         let body = one_message(alloc, text)?;
-        put_fed(alloc, &mut self.machine, serial, body)?;
+        put_fed(alloc, &mut self.machine, &mut self.entries, serial, body)?;
         self.begun = true;
         Ok(())
     }
@@ -214,8 +222,8 @@ impl World {
         count: u32,
         text: &Text,
     ) -> Result<(), NoMemory>
-        ensures { OnOk result ((world : model.World) → self.old ≡ shown world → first + count < 2 ^ 64 →
-            self.new ≡ shown (record world { past = model.feed count (model.one_message text.now) first world.past })) }
+        ensures { OnOk result ((world : model.World) → Shows self.old world → first + count < 2 ^ 64 →
+            Shows self.new (record world { past = model.feed count (model.one_message text.now) first world.past })) }
     {
         for done in 0..count {
             self.feed_one(alloc, first.saturating_add(u64::from(done)), text)?;
@@ -225,12 +233,19 @@ impl World {
 
     // So many messages with this text are put, by no client.
     fn feed(&mut self, alloc: Global, count: u32, text: &Text) -> Result<(), NoMemory>
-        ensures { OnOk result ((world : model.World) → self.old ≡ shown world → world.fed + count < 2 ^ 64 →
-            self.new ≡ shown (record world { fed = world.fed + count; past = model.feed count (model.one_message text.now) world.fed world.past })) }
+        ensures { OnOk result ((world : model.World) → Shows self.old world → world.fed + count < 2 ^ 64 →
+            Shows self.new (record world { fed = world.fed + count; past = model.feed count (model.one_message text.now) world.fed world.past })) }
     {
         let first = self.fed;
         self.feed_all(alloc, first, count, text)?;
         self.fed = first.saturating_add(u64::from(count));
+        Ok(())
+    }
+
+    fn declare(&mut self, alloc: Global, name: &Text) -> Result<(), NoMemory>
+        ensures { OnOk result (self.new ≡ record self.old { client = Some (new_client name.now) }) }
+    {
+        self.client = Some(new_client(alloc, name)?);
         Ok(())
     }
 
@@ -266,10 +281,10 @@ impl World {
     }
 
     fn take_line(&mut self, alloc: Global, line: &Line) -> Result<(), NoMemory>
-        ensures { OnOk result ((world : model.World) → self.old ≡ shown world → MayFollow world line.now → self.new ≡ shown (model.after_line world line.now)) }
+        ensures { OnOk result ((world : model.World) → Shows self.old world → MayFollow world line.now → Shows self.new (model.after_line world line.now)) }
     {
         match line {
-            Line::Client(name) => self.client = Some(new_client(alloc, name)?),
+            Line::Client(name) => self.declare(alloc, name)?,
             Line::Open(_) => self.open(),
             Line::Cut(_) => self.cut(),
             Line::Act(_, command) => {
@@ -289,8 +304,8 @@ impl World {
     pub fn findings(&self, alloc: Global) -> Result<Findings, NoMemory>
         ensures { IfOk result (λ found. (script : List Line) → StandsFor self.now script → found ≡ findings (model.final script)) }
     {
-        let head = self.machine.head().0;
-        let channels = channels_of(alloc, &self.channel, self.begun, &self.machine)?;
+        let head = self.machine.log().head().0;
+        let channels = channels_of(alloc, &self.channel, self.begun, self.machine.log())?;
         let clients = clients_of(alloc, &self.channel, &self.client, head)?;
         Ok(Findings {
             epoch: EPOCH,
@@ -309,7 +324,7 @@ pub fn run(alloc: Global, script: &Script) -> Result<World, NoMemory>
     requires small { AreSmallLines script.now.lines }
     ensures { IfOk result (λ world. StandsFor world script.now.lines) }
 {
-    let mut world = World::new(alloc);
+    let mut world = World::new(alloc)?;
     for line in script.lines.as_slice() {
         world.take_line(alloc, line)?;
     }
