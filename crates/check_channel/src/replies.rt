@@ -41,7 +41,15 @@ fn action_text(action: PresenceAction) -> &'static str {
 
 // Action, connection, client, id, stamp and data.
 fn push_item(alloc: Global, text: &mut String, item: &PresenceItem) -> Result<()> {
-    let told = format!(in alloc; " {}:{}:{}@{}@{}:{}", action_text(item.action), item.conn.as_str(), item.client.as_str(), item.id.as_str(), item.stamp.0, or_none(&item.payload))?;
+    let told = format!(in alloc;
+        " {}:{}:{}@{}@{}:{}",
+        action_text(item.action),
+        item.conn.as_str(),
+        item.client.as_str(),
+        item.id.as_str(),
+        item.stamp.0,
+        or_none(&item.payload)
+    )?;
     text.push_str(told.as_str())?;
     Ok(())
 }
@@ -118,9 +126,13 @@ pub fn reply_text(alloc: Global, reply: &ChannelReply) -> Result<String> {
             resumed,
             presence,
             objects,
-        } => Ok(
-            format!(in alloc; "joined {}{}{}{}", serial.place.0, flag(" resumed", *resumed), flag(" presence", *presence), flag(" objects", *objects))?,
-        ),
+        } => Ok(format!(in alloc;
+            "joined {}{}{}{}",
+            serial.place.0,
+            flag(" resumed", *resumed),
+            flag(" presence", *presence),
+            flag(" objects", *objects)
+        )?),
         ChannelReply::Read(ReadReply::Run(entries)) => run_text(alloc, entries),
         ChannelReply::Read(ReadReply::NotRetained(first)) => {
             Ok(format!(in alloc; "notretained {}", first.0)?)
@@ -134,8 +146,6 @@ pub fn reply_text(alloc: Global, reply: &ChannelReply) -> Result<String> {
             head,
             members,
             objects,
-        } => Ok(
-            format!(in alloc; "census {} {} {members} {objects}", first.0, head.0)?,
-        ),
+        } => Ok(format!(in alloc; "census {} {} {members} {objects}", first.0, head.0)?),
     }
 }

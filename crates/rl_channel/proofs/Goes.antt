@@ -1,5 +1,5 @@
 -- A connection goes, and its members with it.
-use Rattle.std.proofs.Common.{◌≡◌, ℕ, List, [], ◌∷◌, ◌++◌, map, refl, ap, sym, subst, ◌∙◌}
+use Rattle.std.proofs.Common.{◌≡◌, ℕ, List, ◌∷◌, ◌++◌, map, refl, ap, sym, subst, ◌∙◌}
 use Rattle.std.specs.Prelude.{max, filter, reverse, Option, Some, None, option_map, option_to_list}
 use Rattle.rl_ids.specs.Forms.{conn_text}
 use Rattle.rl_types.specs.declared.channel.ChannelEvent.{ChannelEvent}
@@ -51,8 +51,7 @@ goes past conn now stamp id clients old new left place stands named are stamped 
     let entry = left_entry old.log.head stamp conn id clients in
     let is = entry_is past conn now stamp id clients old stands named are stamped in
     let kept : Keeps new.log (without_outcome conn (with_left entry (parts_of past))) = forgets (with_left entry (parts_of past)) (leaves (parts_of past) stands.keeps) in
-    let parts = parts_left conn entry (parts_of past) ∙ sym (gone_leaves past conn now entry is) in
-    (
+    let parts = parts_left conn entry (parts_of past) ∙ sym (gone_leaves past conn now entry is) in (
       placed ∙ ap (option_map (λ (e : Entry). e.place)) is,
       record {
         keeps = subst (Keeps new.log) parts kept;

@@ -6,7 +6,6 @@ use Rattle.rl_types.specs.declared.messages.Entry.{Entry}
 use Rattle.std.specs.List.{list_all}
 use Rattle.std.proofs.lemmas.Grind.{common_steps}
 use Rattle.std.proofs.lemmas.Slice.Eq.{bytes_eq-Decides}
-use Rattle.std.specs.Str.{bytes_eq}
 use Rattle.rl_types.specs.declared.presence.PresenceItem.{PresenceItem}
 use Rattle.rl_model.specs.Verdict.{leaves, entry_of_gone}
 use Rattle.rl_model.specs.Members.{is_on, key_of, enters, members_of}

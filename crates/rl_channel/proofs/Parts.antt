@@ -1,12 +1,11 @@
 -- What one more event makes of what a history leaves.
-use Rattle.std.proofs.Common.{◌≡◌, ℕ, ◌+◌, Bool, true, false, cond, List, [], ◌∷◌, ◌++◌, length, refl, ap, sym, ◌∙◌, arith, length-append}
+use Rattle.std.proofs.Common.{◌≡◌, ℕ, ◌+◌, true, false, List, [], ◌∷◌, ◌++◌, length, refl, ap, sym, ◌∙◌, arith, length-append}
 use Rattle.std.specs.Prelude.{max, Option, Some, None, nat_lt, option_to_list}
 use Rattle.std.specs.List.{cons_option}
 use Rattle.rl_types.specs.declared.channel.ChannelEvent.{ChannelEvent}
 use Rattle.rl_types.specs.declared.channel.ChannelEvent.TheVariants.{Put, Join, Read, MemberPage, Gone, Tick, Census}
 use Rattle.rl_types.specs.declared.channel.Verdict.{Verdict}
 use Rattle.rl_types.specs.declared.channel.Verdict.TheVariants.{Done, Old}
-use Rattle.rl_types.specs.declared.channel.Outcome.{Outcome}
 use Rattle.rl_types.specs.declared.channel.Outcome.TheVariants.{Taken}
 use Rattle.rl_types.specs.declared.messages.Body.{Body}
 use Rattle.rl_types.specs.declared.messages.Entry.{Entry}
@@ -14,9 +13,9 @@ use Rattle.rl_types.specs.declared.messages.Given.{Given}
 use Rattle.rl_ids.specs.declared.members.MemberKey.{MemberKey}
 use Rattle.rl_model.specs.Ids.{given_id}
 use Rattle.rl_model.specs.History.{clock}
-use Rattle.rl_model.specs.Verdict.{Decision, decisions, decided, kept, kept_at, added, added_by, Judgement, Stale, Again, Known, Fails, Adds, judged, verdict, verdict_at, entry_if, entry_of, entry_of_gone, members_on, log, head, given_id_of}
-use Rattle.rl_model.specs.Window.{first, first_next, first_after, fits, fits_at}
-use Rattle.rl_model.specs.Parts.{Parts, parts_of, with_entry, with_outcome, without_outcome, aged}
+use Rattle.rl_model.specs.Verdict.{decisions, kept, kept_at, added, added_by, Judgement, Stale, Again, Known, Fails, Adds, judged, verdict_at, entry_if, entry_of, entry_of_gone, members_on, log, head, given_id_of}
+use Rattle.rl_model.specs.Window.{first, first_next}
+use Rattle.rl_model.specs.Parts.{Parts, parts_of, with_entry, with_outcome, aged}
 use Rattle.rl_channel.specs.Steps.{settled, settled_parts, gone_parts}
 
 pub append_none : {A : Type 0} (xs : List A) → xs ++ [] ≡ xs

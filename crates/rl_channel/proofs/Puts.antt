@@ -1,5 +1,5 @@
 -- A Put that no rule before the limit of members decides.
-use Rattle.std.proofs.Common.{◌≡◌, ℕ, ◌+◌, Bool, true, false, cond, List, [], ◌∷◌, ◌++◌, length, refl, ap, sym, subst, ◌∙◌}
+use Rattle.std.proofs.Common.{◌≡◌, ℕ, ◌+◌, Bool, true, false, cond, List, [], ◌∷◌, ◌++◌, refl, ap, sym, subst, ◌∙◌}
 use Rattle.std.specs.Prelude.{⊤, Result, Ok, Err, OnErr, max, reverse, map, Option, Some, None, option_to_list}
 use Rattle.rl_types.specs.declared.channel.ChannelEvent.{ChannelEvent}
 use Rattle.rl_types.specs.declared.channel.ChannelEvent.TheVariants.{Put}
@@ -85,15 +85,14 @@ settles_with : (past : List ChannelEvent) (conn serial : ℕ) (body : Body) (now
     → ((parts : Parts) → Keeps old.log parts → Keeps new.log (settled_parts conn serial answer parts))
     → new.members ≡ old.members → new.clock ≡ max now old.clock
     → IsPut new conn serial body now answer past
-settles_with past conn serial body now answer old new is stands keeps same clocked =
-    (
-      settled_is (head past) (judged (decisions past) conn serial body) answer is,
-      record {
-        keeps = subst (Keeps new.log) (sym (put_settles past conn serial body now answer is)) (keeps (parts_of past) stands.keeps);
-        members = same ∙ stands.members ∙ ap members (sym (put_settles_log past conn serial body now answer is));
-        clock = clocked ∙ ap (max now) stands.clock;
-      },
-    )
+settles_with past conn serial body now answer old new is stands keeps same clocked = (
+  settled_is (head past) (judged (decisions past) conn serial body) answer is,
+  record {
+    keeps = subst (Keeps new.log) (sym (put_settles past conn serial body now answer is)) (keeps (parts_of past) stands.keeps);
+    members = same ∙ stands.members ∙ ap members (sym (put_settles_log past conn serial body now answer is));
+    clock = clocked ∙ ap (max now) stands.clock;
+  },
+)
 
 -- more members than may stand would
 pub passes_limit : (past : List ChannelEvent) (conn serial : ℕ) (body made : Body) (now stamp : ℕ) (old new : ChannelState)
@@ -126,8 +125,7 @@ adds_at past conn serial body now old new after change stands passes is changes 
     let none = may_add (told (decisions past)) conn serial (max now (clock past)) body after change is changes in
     let adds : judged (decisions past) conn serial body ≡ Adds = limited past conn serial body passes ∙ ap (λ (o : Option ℕ). fails_or o Adds) none in
     let entry = entry_of (head past) (max now (clock past)) conn serial body in
-    let logged : log (Put conn serial body now ∷ past) ≡ log past ++ entry ∷ [] = ap (λ (j : Judgement). log past ++ option_to_list (entry_if j entry)) adds in
-    (
+    let logged : log (Put conn serial body now ∷ past) ≡ log past ++ entry ∷ [] = ap (λ (j : Judgement). log past ++ option_to_list (entry_if j entry)) adds in (
       ap (verdict_at (head past)) (sym adds),
       record {
         keeps = subst (Keeps new.log) (sym (put_adds past conn serial body now adds)) keeps;

@@ -9,7 +9,7 @@ use Rattle.rl_types.specs.declared.messages.Given.{Given}
 use Rattle.rl_types.specs.declared.messages.Given.TheVariants.{Ours, Other}
 use Rattle.rl_model.specs.History.{clock}
 use Rattle.rl_model.specs.Members.{members}
-use Rattle.rl_model.specs.Verdict.{head, log}
+use Rattle.rl_model.specs.Verdict.{head}
 use Rattle.rl_model.specs.Window.{first}
 use Rattle.rl_model.specs.Parts.{Parts, parts_of, aged, read_in}
 use Rattle.rl_model.specs.Reply.{is_resumed, read_reply}

@@ -1,15 +1,13 @@
 -- The rules of a Put up to the limit of members, and what comes after them.
 use Rattle.std.proofs.Common.{◌≡◌, ℕ, Bool, true, false, cond, refl, ap, sym, ◌∙◌}
-use Rattle.std.specs.Prelude.{Option, Some, None, is_some, nat_lt, ◌==◌, ◌||◌, ◌^◌, ◌-◌}
+use Rattle.std.specs.Prelude.{Option, Some, None, nat_lt, ◌==◌, ◌||◌, ◌^◌, ◌-◌}
 use Rattle.rl_types.specs.declared.channel.Verdict.{Verdict}
-use Rattle.rl_types.specs.declared.channel.Verdict.TheVariants.{Done, Old}
 use Rattle.rl_types.specs.declared.channel.Outcome.{Outcome}
-use Rattle.rl_types.specs.declared.channel.Outcome.TheVariants.{Taken, Refused}
 use Rattle.rl_types.specs.declared.messages.Body.{Body}
 use Rattle.rl_types.specs.Weight.{body_weight}
 use Rattle.rl_model.specs.Ids.{has_long}
 use Rattle.rl_model.specs.Verdict.{Judgement, Stale, Again, Known, Fails, Adds, judged_by_serial, judged_by_id, judged_by_rules, fails_or, own_rule}
-use Rattle.rl_channel.specs.Steps.{settled, settled_by_serial, early}
+use Rattle.rl_channel.specs.Steps.{settled, early}
 
 -- a judgement that does not depend on what comes after it, or is that
 data Goes (now : Judgement → Judgement) : Type 0 where

@@ -1,17 +1,14 @@
 -- The presence items of a log with one more entry, and the limit of members.
-use Rattle.std.proofs.Common.{◌≡◌, ℕ, suc, ◌+◌, Bool, true, false, cond, List, [], ◌∷◌, ◌++◌, length, reverse, map, refl, ap, sym, ◌∙◌, ◌||◌, ◌<◌, ◌≤◌, arith}
+use Rattle.std.proofs.Common.{◌≡◌, ℕ, suc, Bool, true, false, cond, List, [], ◌∷◌, ◌++◌, length, reverse, map, refl, ap, sym, ◌∙◌, ◌||◌, ◌<◌, ◌≤◌, arith}
 use Rattle.std.specs.Prelude.{Option, Some, None, is_some, nat_lt, find, filter_map, option_and_then, bytes_eq, ◌&&◌}
 use Rattle.std.specs.List.{cons_option}
-use Rattle.std.specs.Ordering.{match_ordering}
 use Rattle.std.proofs.lemmas.List.{reverse-append}
-use Rattle.rl_ids.specs.Forms.{conn_text}
 use Rattle.rl_ids.specs.declared.members.MemberKey.{MemberKey}
 use Rattle.rl_types.specs.declared.presence.PresenceItem.{PresenceItem}
 use Rattle.rl_types.specs.declared.messages.Entry.{Entry}
 use Rattle.rl_channel.specs.Changes.{IsAfter}
-use Rattle.rl_model.specs.Texts.{made_id}
 use Rattle.rl_model.specs.Ids.{filled_presence}
-use Rattle.rl_model.specs.Members.{key_of, key_cmp, is_of, with_key, keys_in, enters, if_enters, member, members_of, presence_of, items_of, has_too_many, told_by}
+use Rattle.rl_model.specs.Members.{key_of, is_of, with_key, keys_in, enters, if_enters, member, members_of, presence_of, items_of, has_too_many, told_by}
 
 append_assoc_ : {A : Type 0} (xs ys zs : List A) → (xs ++ ys) ++ zs ≡ xs ++ (ys ++ zs)
 append_assoc_ [] ys zs = refl
@@ -66,6 +63,7 @@ stands_same key (item ∷ items) = by_test (is_of key item) (stands_same key ite
     if_one : (action_enters : Bool) → is_some (cond action_enters (Some item) None) ≡ action_enters
     if_one true = refl
     if_one false = refl
+
     by_test : (test : Bool) → is_some (member key items) ≡ stands key (map mark_of items)
         → is_some (option_and_then if_enters (cond test (Some item) (find (is_of key) items))) ≡ cond test (enters item.action) (stands key (map mark_of items))
     by_test true rest = if_one (enters item.action)
@@ -147,8 +145,7 @@ pub after_more : (latest items : List PresenceItem) (item : PresenceItem) (after
     → length new ≤ 2000 → IsAfter latest (items ++ item ∷ []) (Some new)
 after_more latest items item after new is step few =
     let made = step is.0 in
-    let within : nat_lt 2000 (length (members_of (item ∷ (reverse items ++ latest)))) ≡ false = rw (← made) (grind arith) in
-    (
+    let within : nat_lt 2000 (length (members_of (item ∷ (reverse items ++ latest)))) ≡ false = rw (← made) (grind arith) in (
       made ∙ ap (λ (l : List PresenceItem). members_of (l ++ latest)) (sym (reverse-append items (item ∷ []))),
       too_many_more latest items item ∙ ap (λ (b : Bool). b || nat_lt 2000 (length (members_of (item ∷ (reverse items ++ latest))))) is.1 ∙ within,
     )

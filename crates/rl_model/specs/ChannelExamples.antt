@@ -1,8 +1,7 @@
 -- Small histories of a channel whose replies are known, with which the definitions are tried.
-use Rattle.std.specs.Prelude.{ℕ, ◌≡◌, Bool, true, false, List, [], ◌∷◌, Option, Some, None, codes}
-use Rattle.rl_ids.specs.declared.members.MemberKey.{MemberKey}
+use Rattle.std.specs.Prelude.{ℕ, ◌≡◌, true, false, List, [], ◌∷◌, Option, Some, None, codes}
 use Rattle.rl_types.specs.declared.channel.ChannelEvent.{ChannelEvent}
-use Rattle.rl_types.specs.declared.channel.ChannelEvent.TheVariants.{Put, Join, Read, MemberPage, Gone, Tick, Census}
+use Rattle.rl_types.specs.declared.channel.ChannelEvent.TheVariants.{Put, Join, Read, MemberPage, Gone, Census}
 use Rattle.rl_types.specs.declared.channel.ChannelReply.{ChannelReply}
 use Rattle.rl_types.specs.declared.channel.ChannelReply.TheVariants as replies
 use Rattle.rl_types.specs.declared.channel.ReadReply.TheVariants.{NotRetained, Run}

@@ -17,7 +17,7 @@ use Rattle.rl_types.specs.Weight.{body_weight}
 use Rattle.rl_model.specs.Ids.{given_id, has_mixed_ids, has_long, filled}
 use Rattle.rl_ids.specs.Forms.{conn_text}
 use Rattle.rl_model.specs.Texts.{gone_id}
-use Rattle.rl_model.specs.Members.{members_of, items_of, members, has_too_many, told_by, is_on}
+use Rattle.rl_model.specs.Members.{items_of, members, has_too_many, told_by, is_on}
 use Rattle.rl_model.specs.History.{clock}
 
 -- DECISIONS

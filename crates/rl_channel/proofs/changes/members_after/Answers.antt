@@ -3,7 +3,7 @@ use Rattle.std.specs.Prelude.{Some, take, drop, reverse, true}
 use lib.ListN.{get_or}
 use Rattle.std.proofs.lemmas.List.{take_more, take_all, take-append-drop}
 use Rattle.rl_types.specs.declared.presence.PresenceItem.{PresenceItem}
-use Rattle.rl_model.specs.Members.{members_of, has_too_many}
+use Rattle.rl_model.specs.Members.{has_too_many}
 use Rattle.rl_channel.specs.Changes.{IsAfter}
 use Rattle.rl_channel.proofs.Told.{after_more, after_too_many}
 use Rattle.rl_channel.proofs.changes.members_after.Goals as goal

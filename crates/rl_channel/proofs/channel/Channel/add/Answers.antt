@@ -1,10 +1,8 @@
-use Rattle.std.proofs.Common.{◌≡◌, ℕ, List, refl, sym, ap, subst, ◌∙◌, Result, Ok, Err, OnErr}
+use Rattle.std.proofs.Common.{List, refl, sym, ap, subst, ◌∙◌}
 use Rattle.std.specs.Prelude.{Option, Some, None}
 use Rattle.rl_types.specs.declared.presence.PresenceItem.{PresenceItem}
-use Rattle.rl_types.specs.declared.channel.ChannelEvent.{ChannelEvent}
-use Rattle.rl_model.specs.Members.{members_of}
 use Rattle.rl_channel.specs.declared.changes.After.{After}
-use Rattle.rl_channel.specs.declared.changes.After.TheVariants.{Same, Changed, TooMany}
+use Rattle.rl_channel.specs.declared.changes.After.TheVariants.{Same, Changed}
 use Rattle.rl_channel.specs.State.{ChannelState, StandsFor}
 use Rattle.rl_channel.specs.Changes.{IsAfterPut, changed}
 use Rattle.rl_model.specs.Parts.{parts_of}

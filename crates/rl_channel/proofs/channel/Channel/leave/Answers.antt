@@ -1,8 +1,7 @@
-use Rattle.std.proofs.Common.{◌≡◌, ℕ, List, [], ap, sym, subst, ◌∙◌, arith, map}
+use Rattle.std.proofs.Common.{◌≡◌, ℕ, List, ap, sym, ◌∙◌, arith, map}
 use Rattle.std.specs.Prelude.{filter}
 use Rattle.std.proofs.lemmas.Grind.{common_steps}
-use Rattle.rl_types.specs.declared.presence.PresenceItem.{PresenceItem}
-use Rattle.rl_model.specs.Members.{is_on, key_of, members_of}
+use Rattle.rl_model.specs.Members.{is_on, key_of}
 use Rattle.rl_channel.specs.State.{ChannelState}
 use Rattle.rl_channel.proofs.Left.{left_members}
 use Rattle.rl_channel.proofs.channel.Channel.leave.Goals as goal
@@ -15,8 +14,8 @@ returns-clause-members c = λ latest are is.
     (grind (arith, common_steps, head, c.if-head.false))
     are
     (λ leaves none keys.
-        c.in_ok-gone.ensures.members latest leaves none
-        (keys
-            ∙ ap (λ (s : ChannelState). map key_of (filter (is_on c.args.id.now) s.members)) (sym c.self.view_is)
-            ∙ ap (λ (conn : List ℕ). map key_of (filter (is_on conn) c.self.inside.members)) (sym c.as_str.ensures))
-        (ap (λ (s : ChannelState). s.members) c.self.view_is ∙ is))
+    c.in_ok-gone.ensures.members latest leaves none
+    (keys
+    ∙ ap (λ (s : ChannelState). map key_of (filter (is_on c.args.id.now) s.members)) (sym c.self.view_is)
+    ∙ ap (λ (conn : List ℕ). map key_of (filter (is_on conn) c.self.inside.members)) (sym c.as_str.ensures))
+    (ap (λ (s : ChannelState). s.members) c.self.view_is ∙ is))

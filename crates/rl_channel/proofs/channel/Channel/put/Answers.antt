@@ -1,4 +1,4 @@
-use Rattle.std.proofs.Common.{◌≡◌, sym, ap, ◌∙◌}
+use Rattle.std.proofs.Common.{sym, ◌∙◌}
 use Rattle.rl_model.specs.Verdict.{Adds, decisions, kept, remembered_of, fails_or, limit_rule, told, head}
 use Rattle.rl_channel.proofs.Rules.{early_settles}
 use Rattle.rl_channel.proofs.Puts.{settles_early, stays}

@@ -1,4 +1,4 @@
-use Rattle.std.proofs.Common.{◌≡◌, ℕ, List, sym, ap, subst, ◌∙◌}
+use Rattle.std.proofs.Common.{ℕ, List, sym, ap, subst, ◌∙◌}
 use Rattle.std.specs.Prelude.{Option, option_and_then}
 use Rattle.rl_model.specs.Parts.{parts_of, remembered_in}
 use Rattle.rl_model.specs.Verdict.{decisions, remembered}

@@ -1,7 +1,5 @@
-use Rattle.std.proofs.Common.{◌≡◌, ℕ, sym, ap, subst, ◌∙◌}
-use Rattle.rl_types.specs.declared.channel.ChannelEvent.{ChannelEvent}
+use Rattle.std.proofs.Common.{ℕ, sym, ap, subst, ◌∙◌}
 use Rattle.rl_model.specs.Parts.{parts_of}
-use Rattle.rl_model.specs.Verdict.{head}
 use Rattle.rl_model.specs.Window.{first}
 use Rattle.rl_model.specs.Reply.{is_resumed}
 use Rattle.rl_channel.specs.State.{ChannelState, StandsFor}
