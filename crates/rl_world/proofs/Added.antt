@@ -1,5 +1,5 @@
 -- An entry that was just added is retained, whatever the channel took before.
-use Rattle.std.proofs.Common.{◌≡◌, ℕ, suc, ◌+◌, ◌*◌, ◌-◌, ◌≤◌, ◌<◌, ◌^◌, Bool, true, false, List, [], ◌∷◌, ◌++◌, length, take, drop, decimal, refl, ap, sym, ◌∙◌, subst, arith, length-append, length-drop, append-nil}
+use Rattle.std.proofs.Common.{◌≡◌, ℕ, suc, ◌+◌, ◌-◌, ◌≤◌, ◌<◌, ◌^◌, Bool, true, false, List, [], ◌∷◌, ◌++◌, length, take, drop, decimal, refl, ap, sym, ◌∙◌, subst, arith, length-append, length-drop, append-nil}
 use Rattle.std.specs.Prelude.{◌||◌, if◌then◌else◌, ◌==◌, nat_lt, sum_by, codes, Option, Some, None, option_to_list}
 use Rattle.std.proofs.lemmas.List.{drop-append-le, drop_all, take_all}
 use Rattle.std.proofs.lemmas.List.Sums.{sum_by-cons}
@@ -30,7 +30,8 @@ use Rattle.rl_chanlog.proofs.Ends.{moved_from, moved_within}
 
 -- WHAT AN ENTRY WEIGHS
 
-conn_length : (conn : ℕ) → length (conn_text conn) ≡ 9
+-- a connection's id has nine bytes
+pub conn_length : (conn : ℕ) → length (conn_text conn) ≡ 9
 conn_length conn = ap suc (fixed_lengths 16 8 conn (fixed_text 16 8 conn) refl)
 
 -- an id that is made of three numbers has at most 64 bytes

@@ -1,18 +1,15 @@
 -- The frames that a world sends can be sent, and are short; and what they say is what was sent.
-use Rattle.std.proofs.Common.{◌≡◌, ℕ, suc, ◌+◌, ◌*◌, ◌/◌, ◌%◌, ◌≤◌, ◌<◌, ◌^◌, Bool, true, false, List, [], ◌∷◌, ◌++◌, length, decimal, refl, sym, ◌∙◌, ap, subst, arith, length-append, IfSome}
-use Rattle.std.specs.Prelude.{⊤, Option, Some, None, sum_by, codes, option_and_then}
-use Rattle.std.specs.List.{AllByRecursion}
+use Rattle.std.proofs.Common.{◌≡◌, ℕ, ◌≤◌, ◌<◌, ◌^◌, Bool, true, false, List, [], ◌∷◌, ◌++◌, length, refl, sym, ◌∙◌, ap, subst, arith, length-append, IfSome}
+use Rattle.std.specs.Prelude.{Option, Some, None, sum_by, codes, option_and_then}
 use Rattle.rl_base.specs.Digits.{fixed_text}
 use Rattle.rl_base.proofs.Digits.{fixed_lengths}
-use Rattle.rl_ids.specs.Forms.{conn_text, IsSerial}
+use Rattle.rl_ids.specs.Forms.{conn_text}
 use Rattle.rl_types.specs.Weight.{option_len}
 use Rattle.rl_types.specs.declared.messages.Item.{Item}
 use Rattle.rl_types.specs.declared.messages.Body.{Body}
 use Rattle.rl_types.specs.declared.messages.Body.TheVariants.{Messages, Presence}
 use Rattle.rl_types.specs.declared.messages.Entry.{Entry}
-use Rattle.rl_types.specs.declared.messages.Given.{Given}
 use Rattle.rl_types.specs.declared.messages.Given.TheVariants.{Ours, Other}
-use Rattle.rl_types.specs.declared.frames.Head.{Head}
 use Rattle.rl_types.specs.declared.frames.Frame.{Frame}
 use Rattle.rl_types.specs.declared.frames.Frame.TheVariants as frames
 use Rattle.rl_wire.specs.Frames.{max_length}
@@ -23,10 +20,11 @@ use Rattle.rl_wire.proofs.TextLengths.{frame_length}
 use Rattle.rl_model.specs.declared.plain.Sent.{Sent}
 use Rattle.rl_model.specs.declared.plain.Sent.TheVariants.{Asks, Sends}
 use Rattle.rl_model.specs.Limits.{IsChannelName, IsSmallItem, IsSmallBody}
-use Rattle.rl_model.specs.Records.{the_epoch, got_of}
+use Rattle.rl_model.specs.Records.{got_of}
 use Rattle.rl_model.specs.World.{the_conn}
+use Rattle.rl_world.proofs.Added.{conn_length}
 use Rattle.rl_world.specs.Travels.{IsSmallSent, IsSmallEntry}
-use Rattle.rl_world.specs.Frames.{body_frame, publish_head, sent_frame, entry_head, entry_frame, flags_of, attach_code, attached_frame, answer_frame, connected_frame, asked_by, entry_in, told_by, answered_by, is_connected, IsGivenInRange, IsSentInRange}
+use Rattle.rl_world.specs.Frames.{body_frame, publish_head, sent_frame, entry_head, entry_frame, flags_of, attach_code, attached_frame, answer_frame, connected_frame, asked_by, entry_in, told_by, answered_by, is_connected, IsSentInRange}
 
 -- a frame that can be sent and whose text is not too long
 pub record IsCarried (frame : Frame) : Type 0 where
@@ -36,9 +34,6 @@ pub record IsCarried (frame : Frame) : Type 0 where
 -- a frame with few bytes and items
 carried_by : (frame : Frame) → IsSendable frame → text_bytes frame ≤ 10000 → item_count frame ≤ 1 → IsCarried frame
 carried_by frame sendable bytes items = record { sendable = sendable; short = omega (arith, frame_length frame sendable, bytes, items) }
-
-conn_length : (conn : ℕ) → length (conn_text conn) ≡ 9
-conn_length conn = ap suc (fixed_lengths 16 8 conn (fixed_text 16 8 conn) refl)
 
 -- WHAT THE CLIENT SENDS
 

@@ -1,7 +1,7 @@
 -- How many entries a script feeds.
-use Rattle.std.proofs.Common.{◌≡◌, ℕ, ◌+◌, ◌<◌, ◌≤◌, ◌^◌, List, [], ◌∷◌, take, refl, sym, ◌∙◌, ap, arith, get_or, length}
+use Rattle.std.proofs.Common.{◌≡◌, ◌+◌, List, [], ◌∷◌, refl, sym, ◌∙◌, ap, arith}
 use Rattle.std.specs.Prelude.{Option, Some, None, fold, sum_by}
-use Rattle.std.proofs.lemmas.List.Sums.{sum_by_more_le, fold_more, sum_by-cons}
+use Rattle.std.proofs.lemmas.List.Sums.{sum_by-cons}
 use Rattle.rl_types.specs.declared.script.Line.{Line}
 use Rattle.rl_types.specs.declared.script.Line.TheVariants as lines
 use Rattle.rl_types.specs.declared.states.ConnState.{ConnState}
@@ -12,7 +12,6 @@ use Rattle.rl_model.specs.declared.plain.Sent.TheVariants.{Asks, Sends}
 use Rattle.rl_model.specs.Client.{connected, opened, dropped, act, channel_of}
 use Rattle.rl_model.specs.World.{World, empty_world, with_client, serve_for, serve_next, finish, serve_all, settle, settle_in, changed, named, after_line, final}
 use Rattle.rl_model.specs.Script.{fed, fed_by}
-use Rattle.rl_claims.proofs.Sound.{sound_records}
 
 served_fed : (client : Option Client) (world : World) (sent : Sent) → (serve_for world client sent).fed ≡ world.fed
 served_fed None world sent = refl

@@ -1,21 +1,16 @@
 -- Whatever a script with small lines sends is small.
-use Rattle.std.proofs.Common.{◌≡◌, ℕ, zero, suc, ◌+◌, ◌<◌, ◌≤◌, ◌^◌, Bool, true, false, List, [], ◌∷◌, ◌++◌, length, take, drop, refl, sym, ◌∙◌, ap, subst, arith, length-append, append-nil, decimal}
-use Rattle.std.specs.Prelude.{⊤, Option, Some, None, fold, option_to_list, codes, if◌then◌else◌}
+use Rattle.std.proofs.Common.{◌≡◌, ℕ, zero, suc, ◌+◌, ◌<◌, ◌≤◌, ◌^◌, List, [], ◌∷◌, ◌++◌, length, take, drop, refl, sym, ◌∙◌, ap, subst, arith, length-append, append-nil}
+use Rattle.std.specs.Prelude.{⊤, Option, Some, None, fold, option_to_list}
 use Rattle.std.specs.List.{AllByRecursion}
 use Rattle.std.proofs.lemmas.List.Sums.{sum_by-cons}
-use Rattle.std.proofs.lemmas.Fmt.{length-decimal-le}
-use Rattle.rl_base.proofs.Digits.{fixed_lengths}
-use Rattle.rl_base.specs.Digits.{fixed_text}
-use Rattle.rl_ids.specs.Forms.{conn_text}
 use Rattle.rl_types.specs.Weight.{option_len}
 use Rattle.rl_types.specs.declared.channel.ChannelEvent.{ChannelEvent}
 use Rattle.rl_types.specs.declared.channel.ChannelEvent.TheVariants.{Put, Join}
 use Rattle.rl_types.specs.declared.messages.Entry.{Entry}
-use Rattle.rl_types.specs.declared.messages.Item.{Item}
 use Rattle.rl_types.specs.declared.messages.Body.{Body}
 use Rattle.rl_types.specs.declared.messages.Body.TheVariants.{Messages, Presence}
 use Rattle.rl_types.specs.declared.messages.Given.{Given}
-use Rattle.rl_types.specs.declared.messages.Given.TheVariants.{Ours, Other}
+use Rattle.rl_types.specs.declared.messages.Given.TheVariants.{Ours}
 use Rattle.rl_types.specs.declared.findings.Segment.{Segment}
 use Rattle.rl_types.specs.declared.script.Line.{Line}
 use Rattle.rl_types.specs.declared.script.Line.TheVariants as lines
@@ -28,44 +23,27 @@ use Rattle.rl_types.specs.declared.states.ChanState.TheVariants as chan
 use Rattle.rl_model.specs.declared.plain.Client.{Client}
 use Rattle.rl_model.specs.declared.plain.Sent.{Sent}
 use Rattle.rl_model.specs.declared.plain.Sent.TheVariants.{Asks, Sends}
-use Rattle.rl_model.specs.Texts.{made_id}
-use Rattle.rl_model.specs.Ids.{filled, filled_items}
+use Rattle.rl_model.specs.Ids.{filled}
 use Rattle.rl_model.specs.History.{clock}
-use Rattle.rl_model.specs.Verdict.{Judgement, Stale, Again, Known, Fails, Adds, judged, decisions, entry_if, entry_of, entries, log, head}
-use Rattle.rl_model.specs.Limits.{IsChannelName, IsSmallItem, IsSmallBody, IsSmallCommand, IsSmallLine, AreSmallLines}
+use Rattle.rl_model.specs.Verdict.{Judgement, Stale, Again, Known, Fails, Adds, judged, decisions, entry_if, entry_of, entries, log}
+use Rattle.rl_model.specs.Limits.{IsChannelName, IsSmallBody, IsSmallCommand, IsSmallLine, AreSmallLines}
 use Rattle.rl_model.specs.Records.{held_of, last_segment, got_in}
-use Rattle.rl_model.specs.Client.{new_client, held, opened, dropped, numbered, pending, attach_again, attaching_again, connected, if_connected, attach_in, publish, act, channel_of}
+use Rattle.rl_model.specs.Client.{new_client, held, opened, dropped, numbered, pending, attach_again, attaching_again, connected, if_connected, attach_in, act, channel_of}
 use Rattle.rl_model.specs.World.{World, the_conn, feed_conn, empty_world, with_client, serve_for, serve_next, finish, serve_all, settle, settle_in, named, changed, feed, one_message, after_line, final}
-use Rattle.rl_model.specs.Script.{is_publish, fed_by, fed, published}
+use Rattle.rl_model.specs.Script.{fed_by, fed, published}
 use Rattle.rl_claims.proofs.Sound.{each_weaker, each_and}
 use Rattle.rl_world.specs.Travels.{IsOwnSerial, IsSmallSent, IsNamed, IsNamedFor, IsSmallEntry, IsSmallLog, IsSmallClient, HasSmallClient, HasSmallName, IsSmallWorld, CanTravel, AllTravel, published_by, SendsSmall}
+use Rattle.rl_world.proofs.Added.{made_length}
 use Rattle.rl_world.proofs.Fed.{line_fed}
 
 -- ENTRIES
-
-conn_length : (conn : ℕ) → length (conn_text conn) ≡ 9
-conn_length conn = ap suc (fixed_lengths 16 8 conn (fixed_text 16 8 conn) refl)
-
-made_length : (conn serial : ℕ) → serial < 2 ^ 64 → length (made_id conn serial 0) ≤ 64
-made_length conn serial small =
-    let digits : length (decimal serial) ≤ 20 = length-decimal-le 20 serial (omega arith) (omega (arith, small)) small in
-    let index : length (decimal 0) ≤ 20 = length-decimal-le 20 0 (omega arith) (omega arith) (omega arith) in
-    let colon : List ℕ = codes ":" in
-    let first : List ℕ = conn_text conn ++ colon in
-    let second : List ℕ = first ++ decimal serial in
-    let third : List ℕ = second ++ colon in
-    let one : length first ≡ length (conn_text conn) + 1 = length-append (conn_text conn) colon in
-    let two : length second ≡ length first + length (decimal serial) = length-append first (decimal serial) in
-    let three : length third ≡ length second + 1 = length-append second colon in
-    let whole : length (made_id conn serial 0) ≡ length third + length (decimal 0) = length-append third (decimal 0) in
-    omega (arith, digits, index, one, two, three, whole, conn_length conn)
 
 small_filled : (conn serial now : ℕ) (body : Body) → serial < 2 ^ 64 → IsSmallBody body → IsSmallBody (filled conn serial now body)
 small_filled conn serial now (Messages []) low small = absurd small
 small_filled conn serial now (Messages (item ∷ [])) low small = of item.id small.id
   where
     of : (id : Option (List ℕ)) → option_len id ≤ 64 → IsSmallBody (filled conn serial now (Messages (record item { id = id } ∷ [])))
-    of None short = record { id = made_length conn serial low; name = small.name; payload = small.payload; encoding = small.encoding; client = small.client }
+    of None short = record { id = made_length conn serial 0 low (omega arith); name = small.name; payload = small.payload; encoding = small.encoding; client = small.client }
     of (Some text) short = record { id = short; name = small.name; payload = small.payload; encoding = small.encoding; client = small.client }
 small_filled conn serial now (Messages (item ∷ next ∷ items)) low small = absurd small
 small_filled conn serial now (Presence items) low small = absurd small

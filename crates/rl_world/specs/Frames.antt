@@ -7,7 +7,7 @@ use Rattle.rl_types.specs.declared.messages.Body.{Body}
 use Rattle.rl_types.specs.declared.messages.Body.TheVariants.{Messages, Presence}
 use Rattle.rl_types.specs.declared.messages.Entry.{Entry}
 use Rattle.rl_types.specs.declared.messages.Given.{Given}
-use Rattle.rl_types.specs.declared.messages.Given.TheVariants.{Ours, Other}
+use Rattle.rl_types.specs.declared.messages.Given.TheVariants.{Ours}
 use Rattle.rl_types.specs.declared.frames.Head.{Head}
 use Rattle.rl_types.specs.declared.frames.Frame.{Frame}
 use Rattle.rl_types.specs.declared.frames.Frame.TheVariants as frames

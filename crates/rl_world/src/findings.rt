@@ -12,7 +12,9 @@ use crate::serving::CLIENT;
 use rl_chanlog::ChanLog;
 use rl_ids::{ChannelSerial, Copied, List, NoMemory, Place, Text, write_conn};
 use rl_model::Client;
-use rl_types::{ChanState, ChannelFindings, ChannelView, ClientFindings, Entry, Given, ReadReply, Record};
+use rl_types::{
+    ChanState, ChannelFindings, ChannelView, ClientFindings, Entry, Given, ReadReply, Record,
+};
 use std::alloc::Global;
 
 // All entries that are retained.
@@ -28,11 +30,7 @@ fn retained(alloc: Global, log: &ChanLog) -> Result<List<Entry>, NoMemory>
 }
 
 // What the channel shows.
-fn channel_findings(
-    alloc: Global,
-    name: &Text,
-    log: &ChanLog,
-) -> Result<ChannelFindings, NoMemory>
+fn channel_findings(alloc: Global, name: &Text, log: &ChanLog) -> Result<ChannelFindings, NoMemory>
     ensures { IfOk result (λ shown. (parts : Parts) → Keeps log.now parts → shown ≡ channel_kept name.now parts) }
 {
     Ok(ChannelFindings {
