@@ -1,4 +1,7 @@
 //! A channel: a machine that keeps a bounded part of what it took, and answers as its whole history says.
+//!
+//! What it keeps and which history it stands for is `specs/State.antt`. Each event has a call of its own
+//! ([`Channel`]: `put`, `join`, `read`, `member_page`, `gone`, `tick`); `machine.rt` makes them one machine.
 #![tactic(auto)]
 
 mod changes;

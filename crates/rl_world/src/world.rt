@@ -29,7 +29,8 @@ use std::alloc::Global;
 use std::marker::Model;
 use std::mem;
 
-/// The world of a script: a channel machine, the channel's name, and the client.
+/// The world of a script: the channel, the entries that it added so far, its name, and the client. The channel
+/// keeps only a window of its log; the world follows it, and reads each entry when it was added.
 #[derive(Drop)]
 pub struct World {
     machine: Channel,
