@@ -4,7 +4,7 @@ use std::alloc::Global;
 
 /// What the book of connections takes. One event is one atomic step of the book. (RTN15, RTN16; the book is
 /// this project's own.)
-#[derive(Debug, Drop, PartialEq, Eq)]
+#[derive(Debug, Drop)]
 pub enum BookEvent {
     /// A client connects without a key, or with one that is not known. `word` is a random word for its key.
     Open {
@@ -47,7 +47,7 @@ pub enum BookEvent {
 }
 
 /// What the book of connections answers.
-#[derive(Debug, Drop, PartialEq, Eq)]
+#[derive(Debug, Drop)]
 pub enum BookReply {
     Opened {
         conn: ConnNo,

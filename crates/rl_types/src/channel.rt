@@ -1,5 +1,5 @@
-use crate::{Body, Entry, Given, PresenceItem};
-use rl_ids::{ChannelSerial, ConnNo, Copied, List, MemberKey, Moment, NoMemory, Place};
+use crate::{Body, Entry, Given, ObjectState, PresenceItem};
+use rl_ids::{ChannelSerial, ConnNo, Copied, List, MemberKey, Moment, NoMemory, ObjectId, Place};
 use std::alloc::Global;
 
 /// How a put ended.
@@ -20,7 +20,7 @@ pub enum Verdict {
 }
 
 /// What a channel takes. One event is one atomic step of the channel.
-#[derive(Debug, Drop, PartialEq, Eq)]
+#[derive(Debug, Drop)]
 pub enum ChannelEvent {
     /// A client's message, with its serial (RTN7b).
     Put {
@@ -43,6 +43,11 @@ pub enum ChannelEvent {
         after: Option<MemberKey>,
         max: usize,
     },
+    /// The objects past an id, in order of id, at most `max` of them (RTO5).
+    ObjectPage {
+        after: Option<ObjectId>,
+        max: usize,
+    },
     /// A connection is gone for good (RTN15g).
     Gone {
         conn: ConnNo,
@@ -57,7 +62,7 @@ pub enum ChannelEvent {
 }
 
 /// What a channel answers to a read.
-#[derive(Debug, Drop, PartialEq, Eq)]
+#[derive(Debug, Drop)]
 pub enum ReadReply {
     Run(List<Entry>),
     /// The entries after the place are not all retained: the least place that is.
@@ -65,7 +70,7 @@ pub enum ReadReply {
 }
 
 /// What a channel answers, one variant for each kind of event.
-#[derive(Debug, Drop, PartialEq, Eq)]
+#[derive(Debug, Drop)]
 pub enum ChannelReply {
     Put(Verdict),
     /// Where the session begins; whether it goes on from the serial that was given (RTL12, RESUMED);
@@ -80,6 +85,12 @@ pub enum ChannelReply {
     /// The members of a page, each as PRESENT; whether none remain after them; the place of the last entry.
     Members {
         items: List<PresenceItem>,
+        last: bool,
+        head: Place,
+    },
+    /// The objects of a page; whether none remain after them; the place of the last entry.
+    Objects {
+        states: List<ObjectState>,
         last: bool,
         head: Place,
     },
@@ -131,6 +142,10 @@ impl Copied for ChannelEvent {
                 after: after.copy(alloc)?,
                 max: *max,
             }),
+            ChannelEvent::ObjectPage { after, max } => Ok(ChannelEvent::ObjectPage {
+                after: after.copy(alloc)?,
+                max: *max,
+            }),
             ChannelEvent::Gone { conn, now } => Ok(ChannelEvent::Gone {
                 conn: *conn,
                 now: *now,
@@ -168,6 +183,11 @@ impl Copied for ChannelReply {
             ChannelReply::Read(reply) => Ok(ChannelReply::Read(reply.copy(alloc)?)),
             ChannelReply::Members { items, last, head } => Ok(ChannelReply::Members {
                 items: items.copy(alloc)?,
+                last: *last,
+                head: *head,
+            }),
+            ChannelReply::Objects { states, last, head } => Ok(ChannelReply::Objects {
+                states: states.copy(alloc)?,
                 last: *last,
                 head: *head,
             }),

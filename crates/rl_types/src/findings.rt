@@ -1,11 +1,11 @@
 //! What a run shows, in the order in which a report prints it.
-use crate::{Body, ChanState, ConnState, Entry, Given, PresenceItem};
+use crate::{Body, ChanState, ConnState, Entry, Given, ObjectState, PresenceItem};
 use rl_ids::{ChannelSerial, Copied, Epoch, List, NoMemory, Place, Text};
 use std::alloc::Global;
 
 /// Why a segment of a record begins where it does. (This project's own; the spec tells of it by the flag
 /// RESUMED, RTL12.)
-#[derive(Debug, Drop, PartialEq, Eq)]
+#[derive(Debug, Drop)]
 pub enum Cause {
     /// No serial was given.
     Opened,
@@ -20,7 +20,7 @@ pub enum Cause {
 }
 
 /// A run of a channel's log that a client got without a gap.
-#[derive(Debug, Drop, PartialEq, Eq)]
+#[derive(Debug, Drop)]
 pub struct Segment {
     /// The place after which it begins.
     pub start: Place,
@@ -30,13 +30,13 @@ pub struct Segment {
 }
 
 /// What a client got on a channel.
-#[derive(Debug, Drop, PartialEq, Eq)]
+#[derive(Debug, Drop)]
 pub struct Record {
     pub segments: List<Segment>,
 }
 
 /// What a channel shows.
-#[derive(Debug, Drop, PartialEq, Eq)]
+#[derive(Debug, Drop)]
 pub struct ChannelFindings {
     pub name: Text,
     /// The least place that is retained.
@@ -48,14 +48,14 @@ pub struct ChannelFindings {
 }
 
 /// An acknowledgement that a client got (RTN7a): of the message with this serial on this connection.
-#[derive(Debug, Drop, PartialEq, Eq)]
+#[derive(Debug, Drop)]
 pub enum Answer {
     Ack { conn: Text, serial: u64 },
     Nack { conn: Text, serial: u64, code: u32 },
 }
 
 /// What a client shows of a channel.
-#[derive(Debug, Drop, PartialEq, Eq)]
+#[derive(Debug, Drop)]
 pub struct ChannelView {
     pub name: Text,
     pub state: ChanState,
@@ -68,10 +68,12 @@ pub struct ChannelView {
     pub members: List<PresenceItem>,
     /// Whether the objects shown are all of them.
     pub objects_whole: bool,
+    /// The live objects that the client knows, in order of id.
+    pub objects: List<ObjectState>,
 }
 
 /// What a client shows.
-#[derive(Debug, Drop, PartialEq, Eq)]
+#[derive(Debug, Drop)]
 pub struct ClientFindings {
     pub name: Text,
     pub state: ConnState,
@@ -88,7 +90,7 @@ pub struct ClientFindings {
 }
 
 /// What a run shows.
-#[derive(Debug, Drop, PartialEq, Eq)]
+#[derive(Debug, Drop)]
 pub struct Findings {
     /// The run's epoch.
     pub epoch: Epoch,
@@ -165,6 +167,7 @@ impl Copied for ChannelView {
             members_whole: self.members_whole,
             members: self.members.copy(alloc)?,
             objects_whole: self.objects_whole,
+            objects: self.objects.copy(alloc)?,
         })
     }
 }

@@ -1,11 +1,15 @@
 //! What client and service send to each other: the protocol messages (TR), each with the fields that this
 //! project reads.
-use crate::{Given, Item, PresenceItem};
+ghost use Rattle.std.specs.Prelude.{◌≡◌, Some};
+ghost use Rattle.rl_types.specs.Faults.{fault_text};
+
+use crate::{Given, Item, ObjectOp, ObjectState, PresenceItem};
 use rl_ids::{ChannelSerial, Code64, Copied, List, Moment, NoMemory, Text};
 use std::alloc::{AllocError, AllocFailed, Global};
+use std::fmt;
 
-/// What MESSAGE and PRESENCE say of all their items (TR4).
-#[derive(Debug, Drop, PartialEq, Eq)]
+/// What MESSAGE, PRESENCE and OBJECT say of all their items (TR4).
+#[derive(Debug, Drop)]
 pub struct Head {
     /// The channel's name (TR4b), of 1 to 256 bytes.
     pub channel: Text,
@@ -24,7 +28,7 @@ pub struct Head {
 
 /// Where a page of a sync stands (RTP18a): the sync's number, and what is left of it. An empty `cursor` ends
 /// the sync (RTP18b).
-#[derive(Debug, Drop, PartialEq, Eq)]
+#[derive(Debug, Drop)]
 pub struct Cursor {
     /// The text before the first colon.
     pub sequence: Text,
@@ -33,7 +37,7 @@ pub struct Cursor {
 }
 
 /// A protocol message (TR2), one variant for each action.
-#[derive(Debug, Drop, PartialEq, Eq)]
+#[derive(Debug, Drop)]
 pub enum Frame {
     /// The peer is there (RTN23).
     Heartbeat,
@@ -112,12 +116,23 @@ pub enum Frame {
         items: List<PresenceItem>,
     },
     Auth,
+    /// Operations on objects (OM); at least one.
+    Object {
+        head: Head,
+        ops: List<ObjectOp>,
+    },
+    /// A page of the channel's objects (RTO5). Without a place in a sync it is the whole of them (RTO5a5).
+    ObjectSync {
+        channel: Text,
+        at: Option<Cursor>,
+        states: List<ObjectState>,
+    },
 }
 
 /// Why bytes are no frame. A code is the name of the field.
 #[derive(Clone, Copy, Debug, PartialEq, Eq)]
 pub enum WireFault {
-    /// There are more than 4,194,304 bytes.
+    /// There are more bytes than [`rl_numbers::limits::MAX_FRAME_SIZE`].
     TooLong,
     /// They are not UTF-8.
     NotText,
@@ -131,6 +146,28 @@ pub enum WireFault {
     BadField(Code64),
     /// Want of memory. It is no fault of the bytes.
     NoMemory,
+}
+
+impl fmt::Display for WireFault {
+    ghost output = { λ fault. Some (fault_text fault) };
+
+    fn fmt<W: fmt::Write>(&self, f: &mut fmt::Formatter<W>) -> fmt::Result {
+        match self {
+            WireFault::TooLong => f.write_str("the frame is too long"),
+            WireFault::NotText => f.write_str("the frame is not UTF-8"),
+            WireFault::NotJson => f.write_str("the frame is not JSON"),
+            WireFault::NotObject => f.write_str("the frame is not a JSON object"),
+            WireFault::Missing(field) => {
+                f.write_str("missing field ")?;
+                f.write_str(field.as_str())
+            }
+            WireFault::BadField(field) => {
+                f.write_str("bad field ")?;
+                f.write_str(field.as_str())
+            }
+            WireFault::NoMemory => f.write_str("out of memory"),
+        }
+    }
 }
 
 impl From<NoMemory> for WireFault {
@@ -271,6 +308,19 @@ impl Copied for Frame {
                 items: items.copy(alloc)?,
             }),
             Frame::Auth => Ok(Frame::Auth),
+            Frame::Object { head, ops } => Ok(Frame::Object {
+                head: head.copy(alloc)?,
+                ops: ops.copy(alloc)?,
+            }),
+            Frame::ObjectSync {
+                channel,
+                at,
+                states,
+            } => Ok(Frame::ObjectSync {
+                channel: channel.copy(alloc)?,
+                at: at.copy(alloc)?,
+                states: states.copy(alloc)?,
+            }),
         }
     }
 }

@@ -1,9 +1,9 @@
-use crate::PresenceItem;
+use crate::{ObjectOp, PresenceItem};
 use rl_ids::{ChannelSerial, ConnNo, Copied, List, Moment, NoMemory, Place, Text};
 use std::alloc::Global;
 
 /// A message (TM2).
-#[derive(Debug, Drop, PartialEq, Eq)]
+#[derive(Debug, Drop)]
 pub struct Item {
     /// Its id (TM2a), where its publisher gave one or the channel made one.
     pub id: Option<Text>,
@@ -18,16 +18,18 @@ pub struct Item {
 }
 
 /// What an entry carries, and what a client puts.
-#[derive(Debug, Drop, PartialEq, Eq)]
+#[derive(Debug, Drop)]
 pub enum Body {
     /// Messages (RTL6).
     Messages(List<Item>),
     /// What is told of members (RTP8).
     Presence(List<PresenceItem>),
+    /// What is done to objects (RTO).
+    Objects(List<ObjectOp>),
 }
 
 /// An entry of a channel's log.
-#[derive(Debug, Drop, PartialEq, Eq)]
+#[derive(Debug, Drop)]
 pub struct Entry {
     /// Its place in the log, counted from 1.
     pub place: Place,
@@ -41,7 +43,7 @@ pub struct Entry {
 }
 
 /// A channel serial as a client gives it: one of this project's form, or another text.
-#[derive(Debug, Drop, PartialEq, Eq)]
+#[derive(Debug, Drop)]
 pub enum Given {
     Ours(ChannelSerial),
     Other(Text),
@@ -64,6 +66,7 @@ impl Copied for Body {
         match self {
             Body::Messages(items) => Ok(Body::Messages(items.copy(alloc)?)),
             Body::Presence(items) => Ok(Body::Presence(items.copy(alloc)?)),
+            Body::Objects(ops) => Ok(Body::Objects(ops.copy(alloc)?)),
         }
     }
 }
