@@ -14,10 +14,10 @@ use Rattle.rl_types.specs.declared.presence.PresenceAction.{PresenceAction}
 use Rattle.rl_types.specs.declared.presence.PresenceAction.TheVariants as presence
 use Rattle.rl_model.specs.Reply.{reply}
 
--- what a channel of the epoch 1 answers to these events, in order
+-- what a channel of the epoch 1 and the site `s1` answers to these events, in order
 abbrev pub replies_after : List ChannelEvent → List ChannelEvent → List ChannelReply
 replies_after past [] = []
-replies_after past (event ∷ events) = reply 1 past event ∷ replies_after (event ∷ past) events
+replies_after past (event ∷ events) = reply 1 (codes "s1") past event ∷ replies_after (event ∷ past) events
 
 abbrev pub answers : List ChannelEvent → List ChannelReply
 answers events = replies_after [] events

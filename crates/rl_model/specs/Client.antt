@@ -1,7 +1,7 @@
 -- What the client of a script does with its commands, in the plain reading.
 use Rattle.std.specs.Prelude.{ℕ, suc, true, false, List, [], ◌∷◌, ◌++◌, length, drop, Option, Some, None}
-use Rattle.rl_types.specs.declared.script.Command.{Command}
-use Rattle.rl_types.specs.declared.script.Command.TheVariants.{Attach, AttachAt, Publish}
+use Rattle.rl_types.specs.declared.commands.Command.{Command}
+use Rattle.rl_types.specs.declared.commands.Command.TheVariants.{Attach, AttachAt, Publish}
 use Rattle.rl_types.specs.declared.messages.Body.{Body}
 use Rattle.rl_types.specs.declared.messages.Body.TheVariants.{Messages}
 use Rattle.rl_types.specs.declared.messages.Given.{Given}
@@ -96,12 +96,16 @@ publish body client =
       sent = client.sent ++ if_connected client.conn (Sends (length client.published) body);
     }
 
+-- the client is told to do something. The commands that no script has yet do nothing
 abbrev pub act : Command → Client → Client
 act (Attach channel) client = attach_in client.chan None client
 act (AttachAt channel serial) client = attach_in client.chan (Some (Ours serial)) client
 act (Publish channel items) client = publish (Messages items) client
+act command client = client
 
-abbrev pub channel_of : Command → List ℕ
-channel_of (Attach channel) = channel
-channel_of (AttachAt channel serial) = channel
-channel_of (Publish channel items) = channel
+-- the channel of a command that the plain reading has
+abbrev pub channel_of : Command → Option (List ℕ)
+channel_of (Attach channel) = Some channel
+channel_of (AttachAt channel serial) = Some channel
+channel_of (Publish channel items) = Some channel
+channel_of command = None

@@ -13,8 +13,9 @@ use Rattle.rl_types.specs.declared.findings.ClientFindings.{ClientFindings}
 use Rattle.rl_types.specs.declared.findings.Findings.{Findings}
 use Rattle.rl_model.specs.declared.plain.Client.{Client}
 use Rattle.rl_model.specs.Verdict.{log, head}
+use Rattle.rl_model.specs.Objects.{objects_kept}
 use Rattle.rl_model.specs.Window.{first}
-use Rattle.rl_model.specs.Records.{the_epoch}
+use Rattle.rl_model.specs.Records.{the_epoch, the_site}
 use Rattle.rl_model.specs.Client.{held, pending}
 use Rattle.rl_model.specs.World.{World, the_conn}
 
@@ -23,9 +24,9 @@ abbrev pub channels_shown : Option (List ℕ) → List ChannelEvent → List Cha
 channels_shown (Some name) (event ∷ past) =
     record {
       name = name;
-      first = first (event ∷ past);
-      head = head (event ∷ past);
-      entries = drop (first (event ∷ past) - 1) (log (event ∷ past));
+      first = first the_site (event ∷ past);
+      head = head the_site (event ∷ past);
+      entries = drop (first the_site (event ∷ past) - 1) (log the_site (event ∷ past));
     } ∷ []
 channels_shown _ _ = []
 
@@ -33,7 +34,7 @@ abbrev pub held_serial : Option Given → Option ChannelSerial
 held_serial (Some (Ours serial)) = Some serial
 held_serial _ = None
 
--- members and objects are whole exactly where the channel is attached. No script makes a member yet
+-- members and objects are whole exactly where the channel is attached. No script makes a member or an object yet
 abbrev pub is_attached : ChanState → Bool
 is_attached Attached = true
 is_attached _ = false
@@ -48,6 +49,7 @@ view_of name client =
       members_whole = is_attached client.chan;
       members = [];
       objects_whole = is_attached client.chan;
+      objects = objects_kept;
     }
 
 -- a record is shown once the client was told to attach

@@ -15,3 +15,18 @@ moment_of _ = 0
 abbrev pub clock : List ChannelEvent → ℕ
 clock [] = 0
 clock (event ∷ past) = max (moment_of event) (clock past)
+
+-- the clock at the last Tick, 0 before the first
+abbrev pub ticked : List ChannelEvent → ℕ
+ticked [] = 0
+ticked (Tick now ∷ past) = clock (Tick now ∷ past)
+ticked (_ ∷ past) = ticked past
+
+-- a channel's site, and what its clock shows: now, and at the last Tick
+pub record Setting : Type 0 where
+  pub site : List ℕ
+  pub now : ℕ
+  pub ticked : ℕ
+
+abbrev pub setting : List ℕ → List ChannelEvent → Setting
+setting site past = record { site = site; now = clock past; ticked = ticked past }

@@ -4,6 +4,7 @@ pub mod Ids
 pub mod Verdict
 pub mod Window
 pub mod Members
+pub mod Objects
 pub mod Parts
 pub mod Reply
 pub mod Records

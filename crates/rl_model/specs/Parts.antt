@@ -6,6 +6,7 @@ use Rattle.rl_types.specs.declared.channel.Outcome.{Outcome}
 use Rattle.rl_types.specs.declared.channel.ReadReply.{ReadReply}
 use Rattle.rl_types.specs.declared.channel.ReadReply.TheVariants.{Run, NotRetained}
 use Rattle.rl_types.specs.declared.messages.Entry.{Entry}
+use Rattle.rl_numbers.specs.declared.limits.TheConstants.{MAX_REMEMBERED}
 use Rattle.rl_model.specs.Verdict.{Added, has_given, added, decisions, kept, log}
 use Rattle.rl_model.specs.Window.{first, first_after, fits, fits_at}
 
@@ -16,13 +17,13 @@ pub record Parts : Type 0 where
   pub kept : ℕ → Option (ℕ × Outcome)  -- of each connection, its last serial and outcome
 
 -- what a history leaves
-abbrev pub parts_of : List ChannelEvent → Parts
-parts_of past =
+abbrev pub parts_of : List ℕ → List ChannelEvent → Parts
+parts_of site past =
     record {
-      log = log past;
-      first = first past;
-      added = added (decisions past);
-      kept = λ conn. kept conn (decisions past);
+      log = log site past;
+      first = first site past;
+      added = added (decisions site past);
+      kept = λ conn. kept conn (decisions site past);
     }
 
 -- STEPS
@@ -62,6 +63,6 @@ read_in parts from most =
     then NotRetained parts.first
     else Run (take most (drop from parts.log))
 
--- the place of the entry, among the last 8,192, whose Put gave this id
+-- the place of the entry, among those whose ids are remembered, whose Put gave this id
 abbrev pub remembered_in : Parts → List ℕ → Option ℕ
-remembered_in parts id = option_map (λ (a : Added). a.place) (find (has_given id) (take 8192 parts.added))
+remembered_in parts id = option_map (λ (a : Added). a.place) (find (has_given id) (take MAX_REMEMBERED parts.added))

@@ -1,5 +1,5 @@
 -- The record of a client on a channel: the segments that it got. (This project's own.)
-use Rattle.std.specs.Prelude.{ℕ, ◌+◌, Bool, true, false, List, [], ◌∷◌, ◌++◌, length, drop, map, Option, Some, None}
+use Rattle.std.specs.Prelude.{ℕ, ◌+◌, Bool, true, false, List, [], ◌∷◌, ◌++◌, length, drop, map, Option, Some, None, codes}
 use Rattle.rl_types.specs.declared.messages.Entry.{Entry}
 use Rattle.rl_types.specs.declared.messages.Body.{Body}
 use Rattle.rl_types.specs.declared.messages.Given.{Given}
@@ -13,6 +13,10 @@ use Rattle.rl_types.specs.declared.findings.Segment.{Segment}
 -- the epoch of a script
 abbrev pub the_epoch : ℕ
 the_epoch = 1
+
+-- the site of a script
+abbrev pub the_site : List ℕ
+the_site = codes "s1"
 
 -- THE SERIAL HELD (RTL15b)
 

@@ -1,21 +1,30 @@
 -- The text of a report, line by line. (This project's own.)
-use Rattle.std.specs.Prelude.{ℕ, Bool, true, false, ◌||◌, if◌then◌else◌, ◌==◌, nat_lt, List, [], ◌∷◌, ◌++◌, flat_map, Option, Some, None, decimal, codes}
+use Rattle.std.specs.Prelude.{ℕ, Bool, true, false, ◌||◌, if◌then◌else◌, ◌==◌, nat_lt, List, [], ◌∷◌, ◌++◌, flat_map, count_by, is_some, Option, Some, None, decimal, codes}
 use Rattle.rl_base.specs.Digits.{fixed_text}
 use Rattle.rl_ids.specs.Forms.{conn_text}
 use Rattle.rl_ids.specs.declared.serials.ChannelSerial.{ChannelSerial}
+use Rattle.std.specs.Fmt.{signed_decimal}
+use Rattle.rl_ids.specs.Objects.{object_id_text}
+use Rattle.rl_ids.specs.declared.objects.ObjectId.{ObjectId}
+use Rattle.rl_ids.specs.declared.objects.MapValue.{MapValue}
+use Rattle.rl_ids.specs.declared.objects.MapValue.TheVariants as values
+use Rattle.rl_types.specs.declared.objects.Op.{Op}
+use Rattle.rl_types.specs.declared.objects.Op.TheVariants as ops
+use Rattle.rl_types.specs.declared.objects.ObjectOp.{ObjectOp}
+use Rattle.rl_types.specs.declared.objects.MapCell.{MapCell}
+use Rattle.rl_types.specs.declared.objects.ObjectBody.{ObjectBody}
+use Rattle.rl_types.specs.declared.objects.ObjectBody.TheVariants as bodies
+use Rattle.rl_types.specs.declared.objects.ObjectState.{ObjectState}
 use Rattle.rl_types.specs.declared.messages.Item.{Item}
 use Rattle.rl_types.specs.declared.presence.PresenceItem.{PresenceItem}
 use Rattle.rl_types.specs.declared.presence.PresenceAction.{PresenceAction}
 use Rattle.rl_types.specs.declared.presence.PresenceAction.TheVariants as presence
 use Rattle.rl_types.specs.declared.messages.Body.{Body}
-use Rattle.rl_types.specs.declared.messages.Body.TheVariants.{Messages, Presence}
+use Rattle.rl_types.specs.declared.messages.Body.TheVariants.{Messages, Presence, Objects}
 use Rattle.rl_types.specs.declared.messages.Entry.{Entry}
 use Rattle.rl_types.specs.declared.messages.Given.{Given}
 use Rattle.rl_types.specs.declared.messages.Given.TheVariants.{Ours, Other}
-use Rattle.rl_types.specs.declared.states.ConnState.{ConnState}
-use Rattle.rl_types.specs.declared.states.ConnState.TheVariants as conn
-use Rattle.rl_types.specs.declared.states.ChanState.{ChanState}
-use Rattle.rl_types.specs.declared.states.ChanState.TheVariants as chan
+use Rattle.rl_types.specs.States.{conn_word, chan_word}
 use Rattle.rl_types.specs.declared.findings.Answer.{Answer}
 use Rattle.rl_types.specs.declared.findings.Answer.TheVariants.{Ack, Nack}
 use Rattle.rl_types.specs.declared.findings.Cause.{Cause}
@@ -75,9 +84,37 @@ action_word presence.Update = codes "update"
 abbrev pub presence_words : PresenceItem → List (List ℕ)
 presence_words item = codes "|" ∷ action_word item.action ∷ quoted item.client ∷ quoted_or_dash item.payload ∷ []
 
+-- a value of a map
+abbrev pub bool_word : Bool → List ℕ
+bool_word true = codes "true"
+bool_word false = codes "false"
+
+abbrev pub byte_word : ℕ → List ℕ
+byte_word byte = fixed_text 16 2 byte
+
+abbrev pub value_word : MapValue → List ℕ
+value_word (values.Text text) = quoted text
+value_word (values.Whole number) = signed_decimal number
+value_word (values.Bool truth) = bool_word truth
+value_word (values.Bytes bytes) = codes "hex:" ++ flat_map byte_word bytes
+value_word (values.Ref id) = codes "ref:" ++ object_id_text id
+
+-- what an operation does. A map's first entries are not printed
+abbrev pub op_words : ObjectOp → List (List ℕ)
+op_words op = codes "|" ∷ done_words op.op
+  where
+    done_words : Op → List (List ℕ)
+    done_words (ops.MapCreate id entries) = codes "map" ∷ object_id_text id ∷ []
+    done_words (ops.MapSet id key value) = codes "set" ∷ object_id_text id ∷ quoted key ∷ value_word value ∷ []
+    done_words (ops.MapRemove id key) = codes "remove" ∷ object_id_text id ∷ quoted key ∷ []
+    done_words (ops.CounterCreate id count) = codes "counter" ∷ object_id_text id ∷ signed_decimal count ∷ []
+    done_words (ops.CounterInc id amount) = codes "inc" ∷ object_id_text id ∷ signed_decimal amount ∷ []
+    done_words (ops.Delete id) = codes "delete" ∷ object_id_text id ∷ []
+
 abbrev pub body_words : Body → List (List ℕ)
 body_words (Messages items) = codes "message" ∷ flat_map item_words items
 body_words (Presence items) = codes "presence" ∷ flat_map presence_words items
+body_words (Objects ops) = codes "objects" ∷ flat_map op_words ops
 
 -- CHANNELS
 
@@ -92,25 +129,6 @@ channel_lines channel =
     ++ flat_map entry_line channel.entries
 
 -- CLIENTS
-
-abbrev pub conn_word : ConnState → List ℕ
-conn_word conn.Initialized = codes "initialized"
-conn_word conn.Connecting = codes "connecting"
-conn_word conn.Connected = codes "connected"
-conn_word conn.Disconnected = codes "disconnected"
-conn_word conn.Suspended = codes "suspended"
-conn_word conn.Closing = codes "closing"
-conn_word conn.Closed = codes "closed"
-conn_word conn.Failed = codes "failed"
-
-abbrev pub chan_word : ChanState → List ℕ
-chan_word chan.Initialized = codes "initialized"
-chan_word chan.Attaching = codes "attaching"
-chan_word chan.Attached = codes "attached"
-chan_word chan.Detaching = codes "detaching"
-chan_word chan.Detached = codes "detached"
-chan_word chan.Suspended = codes "suspended"
-chan_word chan.Failed = codes "failed"
 
 abbrev pub answer_line : Answer → List ℕ
 answer_line (Ack conn serial) = line (codes "ack") (conn ∷ decimal serial ∷ [])
@@ -150,7 +168,26 @@ yes_or_no false = codes "no"
 abbrev pub member_line : PresenceItem → List ℕ
 member_line member = line (codes "member") (member.conn ∷ quoted member.client ∷ quoted_or_dash member.payload ∷ [])
 
--- no script makes an object yet: only the root is there, which is an empty map
+-- a key of a map that has a value
+abbrev pub key_line : List ℕ → Option MapValue → List ℕ
+key_line key None = []
+key_line key (Some value) = line (codes "key") (quoted key ∷ value_word value ∷ [])
+
+abbrev pub cell_line : List ℕ × MapCell → List ℕ
+cell_line cell = key_line cell.0 cell.1.value
+
+abbrev pub has_value : List ℕ × MapCell → Bool
+has_value cell = is_some cell.1.value
+
+-- a counter with its value, a map with the number of its keys and each of them
+abbrev pub held_lines : ObjectId → ObjectBody → List ℕ
+held_lines id (bodies.Counter sum) = line (codes "counter") (object_id_text id ∷ signed_decimal sum ∷ [])
+held_lines id (bodies.Map cells) =
+    line (codes "map") (object_id_text id ∷ decimal (count_by has_value cells) ∷ []) ++ flat_map cell_line cells
+
+abbrev pub object_lines : ObjectState → List ℕ
+object_lines state = held_lines state.id state.body
+
 abbrev pub view_lines : ℕ → ChannelView → List ℕ
 view_lines epoch view =
     line (codes "record") (view.name ∷ chan_word view.state ∷ held_word view.held ∷ [])
@@ -158,7 +195,7 @@ view_lines epoch view =
     ++ line (codes "members") (view.name ∷ yes_or_no view.members_whole ∷ [])
     ++ flat_map member_line view.members
     ++ line (codes "objects") (view.name ∷ yes_or_no view.objects_whole ∷ [])
-    ++ codes "map root 0\n"
+    ++ flat_map object_lines view.objects
 
 abbrev pub client_lines : ℕ → ClientFindings → List ℕ
 client_lines epoch client =

@@ -1,12 +1,13 @@
 -- The grammar of scripts: what a line says, and which line is the first that is refused, and why.
 -- (This project's own.)
 use Rattle.std.specs.Prelude.{ℕ, suc, ◌+◌, ◌-◌, ◌*◌, slice_get, Bool, true, false, ◌&&◌, ◌||◌, not, if◌then◌else◌, ◌==◌, nat_lt, nat_le, List, [], ◌∷◌, ◌++◌, length, count_by, sum_by, filter_map, is_none, Option, Some, None, Result, Ok, Err, bytes_eq, codes}
+use Rattle.rl_numbers.specs.declared.limits.TheConstants.{MAX_CLIENTS, MAX_COUNT, MAX_FED_TEXT, MAX_NAME, MAX_PUBLISHED, MAX_PUT, MAX_SCRIPT_LINES, MAX_SCRIPT_SIZE, MAX_TEXT, MAX_WORD}
 use Rattle.std.specs.List.{list_all, list_any, slice_split, after_first}
 use Rattle.std.specs.Str.{is_utf8}
 use Rattle.std.specs.Str.Lines.{lines}
 use Rattle.rl_types.specs.declared.script.Line.{Line}
 use Rattle.rl_types.specs.declared.script.Line.TheVariants.{Client, Open, Cut, Act, Feed, Settle}
-use Rattle.rl_types.specs.declared.script.Command.TheVariants.{Attach, AttachAt, Publish}
+use Rattle.rl_types.specs.declared.commands.Command.TheVariants.{Attach, AttachAt, Publish}
 use Rattle.rl_types.specs.declared.script.ScriptCause.{ScriptCause}
 use Rattle.rl_types.specs.declared.script.ScriptCause.TheVariants as cause
 use Rattle.rl_types.specs.declared.messages.Item.{Item}
@@ -28,9 +29,9 @@ ends_open bytes = is_open (slice_get bytes (length bytes - 1))
 abbrev pub line_count : List ℕ → ℕ
 line_count bytes = count_by is_feed bytes + (if ends_open bytes then 1 else 0)
 
--- more than a script may have: 16,777,216 bytes or 100,000 lines
+-- more bytes or more lines than a script may have
 abbrev pub is_too_long : List ℕ → Bool
-is_too_long bytes = nat_lt 16777216 (length bytes) || nat_lt 100000 (line_count bytes)
+is_too_long bytes = nat_lt MAX_SCRIPT_SIZE (length bytes) || nat_lt MAX_SCRIPT_LINES (line_count bytes)
 
 -- TOKENS
 
@@ -52,10 +53,10 @@ abbrev pub is_channel_byte : ℕ → Bool
 is_channel_byte byte = is_name_byte byte || (byte == 45)
 
 abbrev pub is_name : List ℕ → Bool
-is_name token = is_between 1 16 (length token) && list_all is_name_byte token
+is_name token = is_between 1 MAX_NAME (length token) && list_all is_name_byte token
 
 abbrev pub is_channel : List ℕ → Bool
-is_channel token = is_between 1 64 (length token) && list_all is_channel_byte token
+is_channel token = is_between 1 MAX_WORD (length token) && list_all is_channel_byte token
 
 -- the number that digits spell, after what was there before them
 abbrev pub digits_value : ℕ → List ℕ → ℕ
@@ -130,14 +131,14 @@ attach_at_line _ = Err cause.Count
 abbrev pub pub_line : List ℕ → List (List ℕ) → Said
 pub_line text (name ∷ channel ∷ word ∷ words) =
     unless (is_name name) cause.Name (unless (is_channel channel) cause.Channel
-    (unless (is_between 1 4096 (length text)) cause.Text (says (Act name (Publish channel (one_item text))))))
+    (unless (is_between 1 MAX_TEXT (length text)) cause.Text (says (Act name (Publish channel (one_item text))))))
 pub_line text _ = Err cause.Count
 
 abbrev pub feed_line : List ℕ → List (List ℕ) → Said
 feed_line text (channel ∷ count ∷ word ∷ words) =
     unless (is_channel channel) cause.Channel
-    (with_number (number_within 1 10000 count) (λ n.
-    unless (is_between 1 64 (length text)) cause.Text (says (Feed channel n text))))
+    (with_number (number_within 1 MAX_COUNT count) (λ n.
+    unless (is_between 1 MAX_FED_TEXT (length text)) cause.Text (says (Feed channel n text))))
 feed_line text _ = Err cause.Count
 
 abbrev pub settle_line : List (List ℕ) → Said
@@ -222,18 +223,18 @@ is_declared name before = list_any (bytes_eq name) (declared_names before)
 
 abbrev pub may_declare : Option (List ℕ) → List Line → Bool
 may_declare None before = true
-may_declare (Some name) before = not (is_declared name before) && nat_lt (length (declared_names before)) 64
+may_declare (Some name) before = not (is_declared name before) && nat_lt (length (declared_names before)) MAX_CLIENTS
 
 abbrev pub may_use : Option (List ℕ) → List Line → Bool
 may_use None before = true
 may_use (Some name) before = is_declared name before
 
--- a name is declared once, before it is used, and at most 64 are
+-- a name is declared once, before it is used, and not too many are
 abbrev pub in_order : List Line → Line → Bool
 in_order before line = may_declare (name_declared line) before && may_use (name_used line) before
 
--- what is built so far: one client, one channel, a drop only right after a settle, 1,000 messages published,
--- and 4,096 published and fed
+-- what is built so far: one client, one channel, a drop only right after a settle, and so many messages published,
+-- and published and fed, at most
 abbrev pub is_first_client : List Line → Line → Bool
 is_first_client before line = is_none (name_declared line) || nat_lt (length (declared_names before)) 1
 
@@ -250,8 +251,8 @@ in_scope before line =
     is_first_client before line
     && is_only_channel (channel_named line) before
     && (not (is_cut line) || ends_settled before)
-    && nat_le (published (before ++ line ∷ [])) 1000
-    && nat_le (published (before ++ line ∷ []) + fed (before ++ line ∷ [])) 4096
+    && nat_le (published (before ++ line ∷ [])) MAX_PUBLISHED
+    && nat_le (published (before ++ line ∷ []) + fed (before ++ line ∷ [])) MAX_PUT
 
 abbrev pub placed : List Line → Option Line → Said
 placed before None = Ok None

@@ -1,6 +1,8 @@
 -- What a channel answers to a Put, and the log that it keeps.
-use Rattle.std.specs.Prelude.{ℕ, suc, ◌+◌, ◌-◌, ◌^◌, Bool, true, false, ◌||◌, not, if◌then◌else◌, ◌==◌, nat_lt, List, [], ◌∷◌, ◌++◌, length, take, drop, find, filter, filter_map, map, reverse, Option, Some, None, option_and_then, option_map, option_to_list, bytes_eq}
+use Rattle.std.specs.Prelude.{ℕ, suc, ◌+◌, ◌-◌, Bool, true, false, ◌||◌, not, if◌then◌else◌, ◌==◌, nat_lt, List, [], ◌∷◌, ◌++◌, length, take, drop, find, filter, filter_map, map, reverse, Option, Some, None, option_and_then, option_map, option_to_list, bytes_eq}
 use Rattle.std.specs.List.{list_any}
+use Rattle.rl_numbers.specs.declared.limits.TheConstants.{MAX_MESSAGE_SIZE, MAX_PLACE, MAX_REMEMBERED}
+use Rattle.rl_numbers.specs.declared.codes.TheConstants.{BAD_ACTION, BAD_IDS, LOG_FULL, MEMBER_LIMIT, NO_CLIENT_ID, POOL_LIMIT, TOO_LONG}
 use Rattle.rl_types.specs.declared.channel.ChannelEvent.{ChannelEvent}
 use Rattle.rl_types.specs.declared.channel.ChannelEvent.TheVariants.{Put, Gone}
 use Rattle.rl_types.specs.declared.channel.Verdict.{Verdict}
@@ -9,7 +11,7 @@ use Rattle.rl_types.specs.declared.channel.Outcome.{Outcome}
 use Rattle.rl_types.specs.declared.channel.Outcome.TheVariants.{Taken, Refused}
 use Rattle.rl_types.specs.declared.messages.Entry.{Entry}
 use Rattle.rl_types.specs.declared.messages.Body.{Body}
-use Rattle.rl_types.specs.declared.messages.Body.TheVariants.{Messages, Presence}
+use Rattle.rl_types.specs.declared.messages.Body.TheVariants.{Messages, Presence, Objects}
 use Rattle.rl_types.specs.declared.presence.PresenceItem.{PresenceItem}
 use Rattle.rl_types.specs.declared.presence.PresenceAction.{PresenceAction}
 use Rattle.rl_types.specs.declared.presence.PresenceAction.TheVariants as presence
@@ -18,7 +20,7 @@ use Rattle.rl_model.specs.Ids.{given_id, has_mixed_ids, has_long, filled}
 use Rattle.rl_ids.specs.Forms.{conn_text}
 use Rattle.rl_model.specs.Texts.{gone_id}
 use Rattle.rl_model.specs.Members.{items_of, members, has_too_many, told_by, is_on}
-use Rattle.rl_model.specs.History.{clock}
+use Rattle.rl_model.specs.History.{Setting, setting}
 
 -- DECISIONS
 
@@ -75,10 +77,10 @@ is_text text (Some other) = bytes_eq text other
 abbrev pub has_given : List ℕ → Added → Bool
 has_given id one = is_text id one.id
 
--- the place of the entry, among the last 8,192, whose Put gave this id
+-- the place of the entry, among those whose ids are remembered, whose Put gave this id
 abbrev pub remembered : List ℕ → List Decision → Option ℕ
 remembered id before =
-    option_map (λ (a : Added). a.place) (find (has_given id) (take 8192 (added before)))
+    option_map (λ (a : Added). a.place) (find (has_given id) (take MAX_REMEMBERED (added before)))
 
 abbrev pub remembered_of : Body → List Decision → Option ℕ
 remembered_of body before = option_and_then (λ id. remembered id before) (given_id body)
@@ -106,28 +108,35 @@ is_bad_action item = not (is_put item.action)
 abbrev pub has_no_client : PresenceItem → Bool
 has_no_client item = length item.client == 0
 
--- the code of the first rule that a body fails by itself: 113 BadIds; 115 BadAction, 114 NoClientId
+-- the code of the first rule that a body fails by itself
 abbrev pub own_rule : Body → Option ℕ
-own_rule (Messages items) = if has_mixed_ids items then Some 113 else None
+own_rule (Messages items) = if has_mixed_ids items then Some BAD_IDS else None
 own_rule (Presence items) =
-    if list_any is_bad_action items then Some 115
-    else if list_any has_no_client items then Some 114
+    if list_any is_bad_action items then Some BAD_ACTION
+    else if list_any has_no_client items then Some NO_CLIENT_ID
     else None
+own_rule (Objects ops) = None
 
--- 105 MemberLimit, which a body of this connection fails by the presence items of the log, the latest first
+-- the limit of members, which a body of this connection fails by the presence items of the log, the latest first
 abbrev pub limit_rule : List PresenceItem → ℕ → Body → Option ℕ
 limit_rule latest conn (Messages items) = None
-limit_rule latest conn (Presence items) = if has_too_many latest (map (told_by conn) items) then Some 105 else None
+limit_rule latest conn (Objects ops) = None
+limit_rule latest conn (Presence items) = if has_too_many latest (map (told_by conn) items) then Some MEMBER_LIMIT else None
+
+-- the rules on operations. The channel keeps no objects yet, so its pool has no room for any
+abbrev pub object_rule : Setting → Body → Option ℕ
+object_rule setting (Objects ops) = Some POOL_LIMIT
+object_rule setting _ = None
 
 abbrev pub fails_or : Option ℕ → Judgement → Judgement
 fails_or (Some code) next = Fails code
 fails_or None next = next
 
--- 104 TooLong, 116 LogFull, the rules on its kind; else the next rule decides
+-- the limits of size and of the log, the rules on its kind; else the next rule decides
 abbrev pub judged_by_rules : ℕ → Body → Judgement → Judgement
 judged_by_rules head body next =
-    if nat_lt 65536 (body_weight body) || has_long body then Fails 104
-    else if head == 2 ^ 64 - 2 then Fails 116
+    if nat_lt MAX_MESSAGE_SIZE (body_weight body) || has_long body then Fails TOO_LONG
+    else if head == MAX_PLACE then Fails LOG_FULL
     else fails_or (own_rule body) next
 
 abbrev pub judged_by_id : Option ℕ → Judgement → Judgement
@@ -143,13 +152,14 @@ judged_by_serial serial (Some last) next =
 abbrev pub told : List Decision → List PresenceItem
 told before = reverse (items_of (entries before))
 
-abbrev pub judged : List Decision → ℕ → ℕ → Body → Judgement
-judged before conn serial body =
+abbrev pub judged : Setting → List Decision → ℕ → ℕ → Body → Judgement
+judged setting before conn serial body =
     judged_by_serial serial (kept conn before)
     (judged_by_id (remembered_of body before)
     (judged_by_rules (length (entries before)) body
     (fails_or (limit_rule (told before) conn body)
-    Adds)))
+    (fails_or (object_rule setting body)
+    Adds))))
 
 abbrev pub verdict_at : ℕ → Judgement → Verdict
 verdict_at head Stale = Old
@@ -158,9 +168,9 @@ verdict_at head (Known place) = Done (Taken place)
 verdict_at head (Fails code) = Done (Refused code)
 verdict_at head Adds = Done (Taken (head + 1))
 
--- what a Put of this connection, with this serial and body, is answered after these decisions
-abbrev pub verdict : List Decision → ℕ → ℕ → Body → Verdict
-verdict before conn serial body = verdict_at (length (entries before)) (judged before conn serial body)
+-- what a Put of this connection, with this serial and body, is answered after these decisions, in this setting
+abbrev pub verdict : Setting → List Decision → ℕ → ℕ → Body → Verdict
+verdict setting before conn serial body = verdict_at (length (entries before)) (judged setting before conn serial body)
 
 -- DECIDED HISTORIES
 
@@ -169,9 +179,15 @@ entry_if Adds entry = Some entry
 entry_if _ entry = None
 
 -- the entry that a Put adds: at the next place, with the clock of its event
-abbrev pub entry_of : ℕ → ℕ → ℕ → ℕ → Body → Entry
-entry_of head now conn serial body =
-    record { place = head + 1; stamp = now; conn = conn; serial = Some serial; body = filled conn serial now body }
+abbrev pub entry_of : Setting → ℕ → ℕ → ℕ → Body → Entry
+entry_of setting head conn serial body =
+    record {
+      place = head + 1;
+      stamp = setting.now;
+      conn = conn;
+      serial = Some serial;
+      body = filled setting.site (head + 1) conn serial setting.now body;
+    }
 
 -- what a Gone tells of each member, counted from an index: that it left
 abbrev pub leaves : ℕ → ℕ → ℕ → List PresenceItem → List PresenceItem
@@ -196,41 +212,42 @@ gone_entry head now conn gone =
 abbrev pub entry_of_gone : ℕ → ℕ → ℕ → List PresenceItem → Option Entry
 entry_of_gone head now conn [] = None
 entry_of_gone head now conn (member ∷ gone) =
-    if head == 2 ^ 64 - 2 then None else Some (gone_entry head now conn (member ∷ gone))
+    if head == MAX_PLACE then None else Some (gone_entry head now conn (member ∷ gone))
 
 -- the members of a connection, in order of client id
 abbrev pub members_on : ℕ → List Decision → List PresenceItem
 members_on conn before = filter (is_on (conn_text conn)) (members (entries before))
 
--- an event with the clock after it, decided after these decisions
-abbrev pub decided : ℕ → List Decision → ChannelEvent → Decision
-decided now before (Put conn serial body moment) =
+-- an event decided after these decisions, in the setting after it
+abbrev pub decided : Setting → List Decision → ChannelEvent → Decision
+decided setting before (Put conn serial body moment) =
     record {
       event = Put conn serial body moment;
-      verdict = Some (verdict before conn serial body);
-      entry = entry_if (judged before conn serial body) (entry_of (length (entries before)) now conn serial body);
+      verdict = Some (verdict setting before conn serial body);
+      entry = entry_if (judged setting before conn serial body) (entry_of setting (length (entries before)) conn serial body);
     }
-decided now before (Gone conn moment) =
+decided setting before (Gone conn moment) =
     record {
       event = Gone conn moment;
       verdict = None;
-      entry = entry_of_gone (length (entries before)) now conn (members_on conn before);
+      entry = entry_of_gone (length (entries before)) setting.now conn (members_on conn before);
     }
-decided now before event = record { event = event; verdict = None; entry = None }
+decided setting before event = record { event = event; verdict = None; entry = None }
 
-abbrev pub decisions : List ChannelEvent → List Decision
-decisions [] = []
-decisions (event ∷ past) = decided (clock (event ∷ past)) (decisions past) event ∷ decisions past
+-- what a channel of this site made of each event of a history
+abbrev pub decisions : List ℕ → List ChannelEvent → List Decision
+decisions site [] = []
+decisions site (event ∷ past) = decided (setting site (event ∷ past)) (decisions site past) event ∷ decisions site past
 
 -- THE LOG
 
 -- the one log of a channel (RTL15)
-abbrev pub log : List ChannelEvent → List Entry
-log past = entries (decisions past)
+abbrev pub log : List ℕ → List ChannelEvent → List Entry
+log site past = entries (decisions site past)
 
 -- the place of its last entry, or 0
-abbrev pub head : List ChannelEvent → ℕ
-head past = length (log past)
+abbrev pub head : List ℕ → List ChannelEvent → ℕ
+head site past = length (log site past)
 
 -- the entries at the places from + 1 to upto
 abbrev pub run_between : List Entry → ℕ → ℕ → List Entry

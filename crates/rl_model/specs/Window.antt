@@ -6,19 +6,20 @@ use Rattle.rl_types.specs.declared.channel.ChannelEvent.{ChannelEvent}
 use Rattle.rl_types.specs.declared.channel.ChannelEvent.TheVariants.{Tick}
 use Rattle.rl_types.specs.declared.messages.Entry.{Entry}
 use Rattle.rl_types.specs.Weight.{body_weight}
+use Rattle.rl_numbers.specs.declared.limits.TheConstants.{MAX_ENTRY_AGE, MAX_WINDOW_ENTRIES, MAX_WINDOW_WEIGHT}
 use Rattle.rl_model.specs.History.{clock}
 use Rattle.rl_model.specs.Verdict.{log, head}
 
 abbrev pub entry_weight : Entry → ℕ
 entry_weight entry = body_weight entry.body
 
--- at most 4,096 entries that weigh at most 8,388,608 may be retained
+-- so many entries, of so much weight together, may be retained at most
 abbrev pub fits : List Entry → Bool
-fits window = nat_le (length window) 4096 && nat_le (sum_by entry_weight window) 8388608
+fits window = nat_le (length window) MAX_WINDOW_ENTRIES && nat_le (sum_by entry_weight window) MAX_WINDOW_WEIGHT
 
--- at most 120,000 ms old
+-- not too old for a Tick to leave it
 abbrev pub is_young : ℕ → Entry → Bool
-is_young now entry = nat_le now (entry.stamp + 120000)
+is_young now entry = nat_le now (entry.stamp + MAX_ENTRY_AGE)
 
 abbrev pub fits_at : ℕ → List Entry → Bool
 fits_at now window = fits window && list_all (is_young now) window
@@ -38,11 +39,11 @@ first_next event now true log before = first_after fits before log
 first_next event now false log before = before
 
 -- the least place that is retained: it moves where an entry was added, and at a Tick
-abbrev pub first : List ChannelEvent → ℕ
-first [] = 1
-first (event ∷ past) =
-    first_next event (clock (event ∷ past)) (nat_lt (head past) (head (event ∷ past))) (log (event ∷ past)) (first past)
+abbrev pub first : List ℕ → List ChannelEvent → ℕ
+first site [] = 1
+first site (event ∷ past) =
+    first_next event (clock (event ∷ past)) (nat_lt (head site past) (head site (event ∷ past))) (log site (event ∷ past)) (first site past)
 
 -- a client may go on from this place
-abbrev pub is_retained : List ChannelEvent → ℕ → Bool
-is_retained past place = nat_le (first past - 1) place && nat_le place (head past)
+abbrev pub is_retained : List ℕ → List ChannelEvent → ℕ → Bool
+is_retained site past place = nat_le (first site past - 1) place && nat_le place (head site past)

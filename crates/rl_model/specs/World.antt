@@ -22,7 +22,8 @@ use Rattle.rl_model.specs.declared.plain.Sent.{Sent}
 use Rattle.rl_model.specs.declared.plain.Sent.TheVariants.{Asks, Sends}
 use Rattle.rl_model.specs.Verdict.{log, decisions, verdict}
 use Rattle.rl_model.specs.Reply.{is_resumed, joined_place}
-use Rattle.rl_model.specs.Records.{the_epoch, segments_after, got_in}
+use Rattle.rl_model.specs.History.{setting}
+use Rattle.rl_model.specs.Records.{the_epoch, the_site, segments_after, got_in}
 use Rattle.rl_model.specs.Client.{new_client, opened, dropped, connected, act, channel_of}
 
 -- the connection of a script's client, and the one by which entries are fed
@@ -54,14 +55,14 @@ answer_of serial Old = []
 
 abbrev pub serve : World → Client → Sent → World
 serve world client (Asks asked) =
-    let place = joined_place the_epoch world.past asked in
-    let resumed = is_resumed the_epoch world.past asked in
+    let place = joined_place the_epoch the_site world.past asked in
+    let resumed = is_resumed the_epoch the_site world.past asked in
     record world {
       past = Join asked ∷ world.past;
       client = Some (record client { chan = chan.Attached; segments = segments_after asked resumed place client.segments });
     }
 serve world client (Sends serial body) =
-    let answer = verdict (decisions world.past) the_conn serial body in
+    let answer = verdict (setting the_site (Put the_conn serial body 0 ∷ world.past)) (decisions the_site world.past) the_conn serial body in
     record world {
       past = Put the_conn serial body 0 ∷ world.past;
       client = Some (record client { answers = client.answers ++ answer_of serial answer });
@@ -77,7 +78,7 @@ serve_next world sent = serve_for world world.client sent
 -- an attached client gets every later entry
 abbrev pub gets_entries : World → Client → World
 gets_entries world client =
-    with_client world (record client { segments = got_in client.chan (log world.past) client.segments })
+    with_client world (record client { segments = got_in client.chan (log the_site world.past) client.segments })
 
 abbrev pub finish : World → Option Client → World
 finish world None = world
@@ -104,6 +105,10 @@ abbrev pub named : Option (List ℕ) → List ℕ → Option (List ℕ)
 named None channel = Some channel
 named (Some earlier) channel = Some earlier
 
+abbrev pub named_by : Option (List ℕ) → Option (List ℕ) → Option (List ℕ)
+named_by earlier None = earlier
+named_by earlier (Some channel) = named earlier channel
+
 abbrev pub changed : (Client → Client) → World → Option Client → World
 changed change world None = world
 changed change world (Some client) = with_client world (change client)
@@ -116,12 +121,13 @@ abbrev pub feed : ℕ → Body → ℕ → List ChannelEvent → List ChannelEve
 feed zero body serial past = past
 feed (suc count) body serial past = feed count body (suc serial) (Put feed_conn serial body 0 ∷ past)
 
+-- what a line does. The lines that no script has yet do nothing
 abbrev pub after_line : World → Line → World
 after_line world (lines.Client name) = record world { client = Some (new_client name) }
 after_line world (lines.Open name) = changed (λ (client : Client). record client { conn = opened client.conn }) world world.client
 after_line world (lines.Cut name) = changed (λ (client : Client). record client { conn = dropped client.conn }) world world.client
 after_line world (lines.Act name command) =
-    changed (act command) (record world { channel = named world.channel (channel_of command) }) world.client
+    changed (act command) (record world { channel = named_by world.channel (channel_of command) }) world.client
 after_line world (lines.Feed channel count text) =
     record world {
       channel = named world.channel channel;
@@ -129,6 +135,7 @@ after_line world (lines.Feed channel count text) =
       past = feed count (one_message text) world.fed world.past;
     }
 after_line world lines.Settle = settle world world.client
+after_line world line = world
 
 -- the world that a script leaves
 abbrev pub final : List Line → World

@@ -204,3 +204,11 @@ pub const ROUND_GETS: usize = 64;
 
 /// The most steps of a generated script.
 pub const MAX_STEPS: u64 = 100_000;
+
+// SCRIPTS, AS FAR AS THEY ARE BUILT
+
+/// The most messages that a script publishes.
+pub const MAX_PUBLISHED: usize = 1_000;
+
+/// The most messages that a script publishes and feeds together.
+pub const MAX_PUT: usize = 4_096;
