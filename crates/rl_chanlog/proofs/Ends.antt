@@ -6,6 +6,7 @@ use Rattle.std.proofs.lemmas.List.{drop-drop, drop-append-le}
 use Rattle.std.proofs.lemmas.List.Sums.{sum_by-cons}
 use Rattle.std.proofs.Math.Seq.{drop-nil}
 use Rattle.std.proofs.lemmas.Grind.{common_steps}
+use Rattle.rl_numbers.specs.declared.limits.TheConstants.{MAX_ENTRY_AGE}
 use Rattle.rl_types.specs.declared.messages.Entry.{Entry}
 use Rattle.rl_model.specs.Window.{entry_weight, fits, fits_at, is_young, least_place, first_after}
 use Rattle.rl_chanlog.specs.Window.{WindowView, KeepsWindow, RiseTo, narrowed, young_from}
@@ -77,7 +78,7 @@ keeps_added view new entry log first keeps head entries =
 
 -- YOUNG ENTRIES
 
-all_young : (now low newest : ℕ) (window : List Entry) → RiseTo low window newest → now ≤ low + 120000 → list_all (is_young now) window ≡ true
+all_young : (now low newest : ℕ) (window : List Entry) → RiseTo low window newest → now ≤ low + MAX_ENTRY_AGE → list_all (is_young now) window ≡ true
 all_young now low newest [] rise young = refl
 all_young now low newest (entry ∷ window) rise young =
     let here = rise.0 in
@@ -99,7 +100,7 @@ narrowed_is_young now low newest (entry ∷ window) rise small = by_test (is_you
     by_test : (young : Bool) → is_young now entry ≡ young → narrowed (fits_at now) window ≡ young_from now window → (if fits_at now (entry ∷ window) then entry ∷ window else narrowed (fits_at now) window) ≡ (if young then entry ∷ window else young_from now window)
     by_test true young rest =
         let least : entry.stamp ≤ entry.stamp = omega arith in
-        let old : now ≤ entry.stamp + 120000 = grind (arith, common_steps, young) in
+        let old : now ≤ entry.stamp + MAX_ENTRY_AGE = grind (arith, common_steps, young) in
         let all = all_young now entry.stamp newest (entry ∷ window) (least, rise.1) old in
         ap (λ (b : Bool). if (fits (entry ∷ window) && b) then entry ∷ window else narrowed (fits_at now) window) all ∙ ap (λ (b : Bool). if (b && true) then entry ∷ window else narrowed (fits_at now) window) small
     by_test false young rest =

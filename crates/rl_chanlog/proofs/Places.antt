@@ -10,6 +10,7 @@ use Rattle.std.proofs.lemmas.Map.Entries.{place_from_lookup}
 use Rattle.std.proofs.lemmas.Map.Text.{is_text, hash_map_text_same, hash_map_updates_text}
 use Rattle.std.proofs.lemmas.Grind.{common_steps}
 use Rattle.std.proofs.lemmas.Slice.Eq.{bytes_eq-Decides}
+use Rattle.rl_numbers.specs.declared.limits.TheConstants.{MAX_REMEMBERED}
 use Rattle.rl_model.specs.Verdict.{Added, has_given}
 use Rattle.rl_chanlog.specs.Ids.{IdsView, KeepsIds, CountDown, texts_of, place_in, latest, if_near, or_earlier, remembered_at}
 
@@ -88,8 +89,8 @@ found_near most head view id added recent earlier down =
     ∙ ap (if_near most head) (latest_split id view.count most added)
     ∙ latest_near most (view.count + most) head id added enough down
 
-pub found : (head : ℕ) (view : IdsView) (id : List ℕ) (added : List Added) → KeepsIds view added → CountDown head added → remembered_at head id view ≡ latest id (take 8192 added)
-found head view id added keeps down = found_near 8192 head view id added (keeps.recent id) (keeps.earlier id) down
+pub found : (head : ℕ) (view : IdsView) (id : List ℕ) (added : List Added) → KeepsIds view added → CountDown head added → remembered_at head id view ≡ latest id (take MAX_REMEMBERED added)
+found head view id added keeps down = found_near MAX_REMEMBERED head view id added (keeps.recent id) (keeps.earlier id) down
 
 -- STEPS
 
@@ -108,15 +109,15 @@ pub keeps_next : (view new : IdsView) (one : Added) (added : List Added) → new
 keeps_next view new one added count earlier recent keeps =
     record {
       recent = λ id. recent id ∙ ap (cond (has_given id one) (Some one.place)) (keeps.recent id) ∙ sym (added_recent id view.count new.count one added count);
-      earlier = λ id. ap (place_in id) earlier ∙ keeps.earlier id ∙ sym (added_places id 8192 view.count new.count one added count);
+      earlier = λ id. ap (place_in id) earlier ∙ keeps.earlier id ∙ sym (added_places id MAX_REMEMBERED view.count new.count one added count);
     }
 
 -- where the recent ids become the earlier ones
-pub keeps_turned : (view new : IdsView) (added : List Added) → view.count ≡ 8192 → new.count ≡ 0 → new.recent ≡ [] → new.earlier ≡ view.recent → KeepsIds view added → KeepsIds new added
+pub keeps_turned : (view new : IdsView) (added : List Added) → view.count ≡ MAX_REMEMBERED → new.count ≡ 0 → new.recent ≡ [] → new.earlier ≡ view.recent → KeepsIds view added → KeepsIds new added
 keeps_turned view new added full count none turned keeps =
     record {
       recent = λ id. ap (place_in id) none ∙ ap (λ (k : ℕ). latest id (take k added)) (sym count);
-      earlier = λ id. ap (place_in id) turned ∙ keeps.recent id ∙ ap (λ (k : ℕ). latest id (take k added)) full ∙ ap (λ (k : ℕ). latest id (take 8192 (drop k added))) (sym count);
+      earlier = λ id. ap (place_in id) turned ∙ keeps.recent id ∙ ap (λ (k : ℕ). latest id (take k added)) full ∙ ap (λ (k : ℕ). latest id (take MAX_REMEMBERED (drop k added))) (sym count);
     }
 
 -- where look-ups find the same
@@ -124,7 +125,7 @@ pub keeps_same : (view new : IdsView) (added : List Added) → new.count ≡ vie
 keeps_same view new added count earlier recent keeps =
     record {
       recent = λ id. recent id ∙ keeps.recent id ∙ ap (λ (k : ℕ). latest id (take k added)) (sym count);
-      earlier = λ id. ap (place_in id) earlier ∙ keeps.earlier id ∙ ap (λ (k : ℕ). latest id (take 8192 (drop k added))) (sym count);
+      earlier = λ id. ap (place_in id) earlier ∙ keeps.earlier id ∙ ap (λ (k : ℕ). latest id (take MAX_REMEMBERED (drop k added))) (sym count);
     }
 
 -- TEXTS AS KEYS

@@ -3,6 +3,7 @@ use Rattle.std.proofs.Common.{◌≡◌, ℕ, ◌+◌, ◌-◌, ◌^◌, ◌<◌
 use Rattle.std.specs.Prelude.{sum_by, if◌then◌else◌, slice_index_or}
 use Rattle.std.proofs.lemmas.List.{get_or-drop, take_more}
 use Rattle.std.proofs.lemmas.Grind.{common_steps}
+use Rattle.rl_numbers.specs.declared.limits.TheConstants.{MAX_WINDOW_ENTRIES, MAX_WINDOW_WEIGHT}
 use Rattle.rl_types.specs.declared.messages.Entry.{Entry}
 use Rattle.rl_model.specs.Window.{entry_weight, fits, fits_at}
 use Rattle.rl_chanlog.specs.Window.{IsWindow, RiseTo, narrowed, young_from}
@@ -36,8 +37,8 @@ window_fits : (entries : List Entry) (weight head newest : ℕ) → IsWindow ent
 window_fits entries weight head newest is = let few = is.few in let light = is.light in let weighed = is.weighed in grind (arith, common_steps, few, light, weighed)
 
 pub record IsSmall (entries : List Entry) : Type 0 where
-  pub few : length entries ≤ 4096
-  pub light : sum_by entry_weight entries ≤ 8388608
+  pub few : length entries ≤ MAX_WINDOW_ENTRIES
+  pub light : sum_by entry_weight entries ≤ MAX_WINDOW_WEIGHT
 
 is_small : (entries : List Entry) → fits entries ≡ true → IsSmall entries
 is_small entries fit = record { few = grind (arith, common_steps, fit); light = grind (arith, common_steps, fit) }

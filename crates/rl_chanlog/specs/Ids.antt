@@ -1,6 +1,7 @@
 -- The ids that are remembered.
 use Rattle.std.specs.Prelude.{◌≡◌, ℕ, ◌-◌, ◌≤◌, if◌then◌else◌, nat_lt, List, [], ◌∷◌, map, take, drop, find, Option, Some, None, option_map, bytes_eq, string_bytes, String}
 use Rattle.std.specs.Map.{lookup}
+use Rattle.rl_numbers.specs.declared.limits.TheConstants.{MAX_REMEMBERED}
 use Rattle.rl_model.specs.Verdict.{Added, has_given}
 
 -- what a contract sees of the ids
@@ -30,7 +31,7 @@ CountDown head (one ∷ earlier) = (one.place ≡ head) × (1 ≤ head) × Count
 -- the ids stand for those of all entries, the latest first
 pub record KeepsIds (view : IdsView) (added : List Added) : Type 0 where
   pub recent : (id : List ℕ) → place_in id view.recent ≡ latest id (take view.count added)
-  pub earlier : (id : List ℕ) → place_in id view.earlier ≡ latest id (take 8192 (drop view.count added))
+  pub earlier : (id : List ℕ) → place_in id view.earlier ≡ latest id (take MAX_REMEMBERED (drop view.count added))
 
 -- a place that is among so many last ones up to the head
 abbrev pub if_near : ℕ → ℕ → Option ℕ → Option ℕ
@@ -43,4 +44,4 @@ or_earlier (Some place) earlier = Some place
 
 -- the place that is found for an id
 abbrev pub remembered_at : ℕ → List ℕ → IdsView → Option ℕ
-remembered_at head id view = if_near 8192 head (or_earlier (place_in id view.recent) (place_in id view.earlier))
+remembered_at head id view = if_near MAX_REMEMBERED head (or_earlier (place_in id view.recent) (place_in id view.earlier))

@@ -1,5 +1,6 @@
 -- The end of the log that is retained.
 use Rattle.std.specs.Prelude.{◌≡◌, ℕ, ◌+◌, ◌-◌, ◌^◌, ◌≤◌, Bool, if◌then◌else◌, List, [], ◌∷◌, length, drop, sum_by}
+use Rattle.rl_numbers.specs.declared.limits.TheConstants.{MAX_WINDOW_ENTRIES, MAX_WINDOW_WEIGHT}
 use Rattle.rl_types.specs.declared.messages.Entry.{Entry}
 use Rattle.rl_model.specs.Window.{entry_weight, is_young}
 
@@ -37,9 +38,9 @@ RiseTo low [] newest = low ≤ newest
 RiseTo low (entry ∷ rest) newest = (low ≤ entry.stamp) × RiseTo entry.stamp rest newest
 
 pub record IsWindow (entries : List Entry) (weight : ℕ) (head : ℕ) (newest : ℕ) : Type 0 where
-  pub few : length entries ≤ 4096
+  pub few : length entries ≤ MAX_WINDOW_ENTRIES
   pub weighed : weight ≡ sum_by entry_weight entries
-  pub light : weight ≤ 8388608
+  pub light : weight ≤ MAX_WINDOW_WEIGHT
   pub within : length entries ≤ head
   pub small : head ≤ 2 ^ 64 - 2
   pub rise : RiseTo 0 entries newest

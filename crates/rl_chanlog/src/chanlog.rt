@@ -1,4 +1,4 @@
-ghost use Rattle.std.specs.Prelude.{◌≡◌, ℕ, ◌+◌, ◌-◌, ◌^◌, ◌<◌, ◌≤◌, [], length, IfOk, OnOk, OnErr, IsOk};
+ghost use Rattle.std.specs.Prelude.{◌≡◌, ℕ, List, ◌+◌, ◌-◌, ◌^◌, ◌<◌, ◌≤◌, [], length, IfOk, OnOk, OnErr, IsOk};
 ghost use Rattle.rl_model.specs.Parts.{Parts, aged, parts_of, read_in, remembered_in, retained, with_entry, with_outcome, without_outcome};
 ghost use Rattle.rl_chanlog.specs.Keeps.{IsReady, Keeps};
 
@@ -6,6 +6,7 @@ use crate::ids::Ids;
 use crate::outcomes::Outcomes;
 use crate::window::Window;
 use rl_ids::{ConnNo, Moment, NoMemory, Place, Text};
+use rl_numbers::limits::{MAX_REMEMBERED, MAX_WINDOW_ENTRIES};
 use rl_types::{Entry, Outcome, ReadReply};
 use std::alloc::Global;
 use std::marker::Model;
@@ -27,16 +28,17 @@ pub struct ChanLog {
 impl Model for ChanLog {
     ghost use Rattle.std.specs.Prelude.{◌-◌, min};
     ghost use Rattle.rl_chanlog.specs.Keeps.{ChanLogView};
+    ghost use Rattle.rl_numbers.specs.declared.limits.TheConstants.{MAX_REMEMBERED};
 
     ghost Value = { ChanLogView };
 
-    ghost view = { λ l. record { window = l.window; ids = l.ids; outcomes = l.outcomes; head = l.window.head; newest = l.window.newest; room = min l.window.spare (min l.ids.spare (8192 - l.ids.count)) } };
+    ghost view = { λ l. record { window = l.window; ids = l.ids; outcomes = l.outcomes; head = l.window.head; newest = l.window.newest; room = min l.window.spare (min l.ids.spare (MAX_REMEMBERED - l.ids.count)) } };
 }
 
 impl ChanLog {
     /// The log of a channel that took nothing yet. `NoMemory` comes where memory is wanted.
     pub fn new(alloc: Global) -> Result<ChanLog, NoMemory>
-        ensures { IfOk result (λ log. Keeps log (parts_of []) × (log.newest ≡ 0)) }
+        ensures { IfOk result (λ log. ((site : List ℕ) → Keeps log (parts_of site [])) × (log.newest ≡ 0)) }
     {
         Ok(ChanLog {
             window: Window::new(alloc),
@@ -131,7 +133,7 @@ impl ChanLog {
     /// How many entries are retained: at most 4,096 (this project's own).
     pub fn len(&self) -> usize
         ensures value { (parts : Parts) → Keeps self.now parts → result ≡ length (retained parts) }
-        ensures limit { result ≤ 4096 }
+        ensures limit { result ≤ MAX_WINDOW_ENTRIES }
     {
         self.window.len()
     }

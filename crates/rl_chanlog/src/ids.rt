@@ -5,13 +5,11 @@ ghost use Rattle.rl_model.specs.Verdict.{Added};
 ghost use Rattle.rl_chanlog.specs.Ids.{KeepsIds, or_earlier, place_in, remembered_at, texts_of};
 
 use rl_ids::{NoMemory, Place, Text};
+use rl_numbers::limits::MAX_REMEMBERED;
 use std::alloc::Global;
 use std::collections::HashMap;
 use std::marker::Model;
 use std::mem;
-
-// Of so many of the last entries the ids are remembered.
-const MOST_IDS: u64 = 8192;
 
 // The ids by which entries are known, each with the place of the latest entry that it was given for: `recent`
 // has those of the last `count` entries, which are at most 8,192, and `earlier` those of the 8,192 entries before
@@ -27,12 +25,13 @@ impl Model for Ids {
     ghost use Rattle.std.specs.Prelude.{◌≤◌};
     ghost use Rattle.std.specs.HashMap.{spare};
     ghost use Rattle.rl_chanlog.specs.Ids.{IdsView, texts_of};
+    ghost use Rattle.rl_numbers.specs.declared.limits.TheConstants.{MAX_REMEMBERED};
 
     ghost Value = { IdsView };
 
     ghost view = { λ i. record { recent = texts_of i.recent.entries; earlier = texts_of i.earlier.entries; count = i.count; spare = spare i.recent } };
 
-    ghost invariant = { λ i. i.count ≤ 8192 };
+    ghost invariant = { λ i. i.count ≤ MAX_REMEMBERED };
 }
 
 impl Ids {
@@ -50,7 +49,7 @@ impl Ids {
     // Makes room for the id of one more entry.
     pub fn reserve(&mut self, alloc: Global) -> Result<(), NoMemory>
         ensures same { (added : List Added) → KeepsIds self.old added → KeepsIds self.new added }
-        ensures room { OnOk result ((0 < self.new.spare) × (self.new.count < 8192)) }
+        ensures room { OnOk result ((0 < self.new.spare) × (self.new.count < MAX_REMEMBERED)) }
     {
         self.turn(alloc);
         self.recent.reserve(1)?;
@@ -60,9 +59,9 @@ impl Ids {
     // Where `recent` has the ids of 8,192 entries, makes it `earlier`, and begins another.
     fn turn(&mut self, alloc: Global)
         ensures same { (added : List Added) → KeepsIds self.old added → KeepsIds self.new added }
-        ensures room { self.new.count < 8192 }
+        ensures room { self.new.count < MAX_REMEMBERED }
     {
-        if self.count == MOST_IDS {
+        if self.count == MAX_REMEMBERED {
             self.earlier = mem::replace(&mut self.recent, HashMap::new(alloc));
             self.count = 0;
         }
@@ -71,7 +70,7 @@ impl Ids {
     // Remembers the id of an entry at this place. It takes no memory.
     pub fn add(&mut self, id: Option<Text>, place: u64)
         requires spare { 0 < self.old.spare }
-        requires few { self.old.count < 8192 }
+        requires few { self.old.count < MAX_REMEMBERED }
         ensures { (added : List Added) → KeepsIds self.old added → KeepsIds self.new (record { id = id; place = place } ∷ added) }
     {
         self.count += 1;
@@ -85,7 +84,7 @@ impl Ids {
         ensures { result ≡ remembered_at head id.now self.now }
     {
         match self.find(id) {
-            Some(place) if head.saturating_sub(place) < MOST_IDS => Some(Place(place)),
+            Some(place) if head.saturating_sub(place) < MAX_REMEMBERED => Some(Place(place)),
             _ => None,
         }
     }

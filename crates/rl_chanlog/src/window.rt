@@ -4,18 +4,11 @@ ghost use Rattle.rl_model.specs.Window.{entry_weight, fits, fits_at};
 ghost use Rattle.rl_chanlog.specs.Window.{RiseTo, narrowed, young_from};
 
 use rl_ids::{Copied, List, Moment, NoMemory};
+use rl_numbers::limits::{MAX_ENTRY_AGE, MAX_WINDOW_ENTRIES, MAX_WINDOW_WEIGHT};
 use rl_types::{Entry, weight};
 use std::alloc::Global;
 use std::collections::VecDeque;
 use std::marker::Model;
-
-// The most entries that are retained, and the most that they weigh.
-const MOST_ENTRIES: usize = 4096;
-
-const MOST_WEIGHT: u128 = 8_388_608;
-
-// The greatest age of an entry that is retained, in milliseconds.
-const GREATEST_AGE: u64 = 120_000;
 
 // The retained entries with what they weigh, the place of the last entry, and its stamp. The stamps of the
 // entries never fall.
@@ -94,7 +87,7 @@ impl Window {
     // How many entries are retained.
     pub fn len(&self) -> usize
         ensures value { result ≡ length self.now.entries }
-        ensures limit { result ≤ 4096 }
+        ensures limit { result ≤ MAX_WINDOW_ENTRIES }
     {
         self.entries.len()
     }
@@ -137,7 +130,7 @@ fn narrow(entries: &mut VecDeque<Entry>, weighs: u128) -> u128
 {
     let mut left = weighs;
     while let Some(earliest) = entries.front() {
-        if entries.len() <= MOST_ENTRIES && left <= MOST_WEIGHT {
+        if entries.len() <= MAX_WINDOW_ENTRIES && left <= u128::from(MAX_WINDOW_WEIGHT) {
             return left;
         }
         left -= u128::from(weight(&earliest.body));
@@ -154,7 +147,7 @@ fn drop_old(entries: &mut VecDeque<Entry>, weighs: u128, now: u64) -> u128
 {
     let mut left = weighs;
     while let Some(earliest) = entries.front() {
-        if now.saturating_sub(earliest.stamp.0) <= GREATEST_AGE {
+        if now.saturating_sub(earliest.stamp.0) <= MAX_ENTRY_AGE {
             return left;
         }
         left -= u128::from(weight(&earliest.body));

@@ -12,7 +12,7 @@ use Rattle.rl_model.specs.Verdict.{decisions, entry_of_gone, members_on, told, l
 use Rattle.rl_model.specs.Parts.{Parts, parts_of, without_outcome}
 use Rattle.rl_model.specs.Reply.{gone_place}
 use Rattle.rl_chanlog.specs.Keeps.{ChanLogView, Keeps}
-use Rattle.rl_channel.specs.State.{ChannelState, StandsFor}
+use Rattle.rl_channel.specs.State.{ChannelState, StandsAt}
 use Rattle.rl_channel.specs.Steps.{gone_parts}
 use Rattle.rl_channel.specs.Leaving.{left_entry, left_items, with_left}
 use Rattle.rl_channel.proofs.Left.{entry_same}
@@ -28,34 +28,34 @@ parts_left conn None parts = refl
 parts_left conn (Some entry) parts = refl
 
 -- the entry is the one of the definition
-entry_is : (past : List ChannelEvent) (conn now stamp : ℕ) (id : List ℕ) (clients : List (List ℕ)) (old : ChannelState)
-    → StandsFor old past → id ≡ conn_text conn → clients ≡ map (λ (item : PresenceItem). item.client) (filter (is_on id) old.members) → stamp ≡ max now old.clock
-    → left_entry old.log.head stamp conn id clients ≡ entry_of_gone (head past) (max now (clock past)) conn (members_on conn (decisions past))
-entry_is past conn now stamp id clients old stands named are stamped =
+entry_is : (site : List ℕ) (past : List ChannelEvent) (conn now stamp : ℕ) (id : List ℕ) (clients : List (List ℕ)) (old : ChannelState)
+    → StandsAt site old past → id ≡ conn_text conn → clients ≡ map (λ (item : PresenceItem). item.client) (filter (is_on id) old.members) → stamp ≡ max now old.clock
+    → left_entry old.log.head stamp conn id clients ≡ entry_of_gone (head site past) (max now (clock past)) conn (members_on conn (decisions site past))
+entry_is site past conn now stamp id clients old stands named are stamped =
     ap (left_entry old.log.head stamp conn id) are
     ∙ entry_same old.log.head stamp conn id old.members
     ∙ ap (λ (h : ℕ). entry_of_gone h stamp conn (filter (is_on id) old.members)) stands.keeps.head
-    ∙ ap (λ (s : ℕ). entry_of_gone (head past) s conn (filter (is_on id) old.members)) (stamped ∙ ap (max now) stands.clock)
-    ∙ ap (λ (i : List ℕ). entry_of_gone (head past) (max now (clock past)) conn (filter (is_on i) old.members)) named
-    ∙ ap (λ (m : List PresenceItem). entry_of_gone (head past) (max now (clock past)) conn (filter (is_on (conn_text conn)) m)) stands.members
+    ∙ ap (λ (s : ℕ). entry_of_gone (head site past) s conn (filter (is_on id) old.members)) (stamped ∙ ap (max now) stands.clock)
+    ∙ ap (λ (i : List ℕ). entry_of_gone (head site past) (max now (clock past)) conn (filter (is_on i) old.members)) named
+    ∙ ap (λ (m : List PresenceItem). entry_of_gone (head site past) (max now (clock past)) conn (filter (is_on (conn_text conn)) m)) stands.members
 
-pub goes : (past : List ChannelEvent) (conn now stamp : ℕ) (id : List ℕ) (clients : List (List ℕ)) (old new : ChannelState) (left : ChanLogView) (place : Option ℕ)
-    → StandsFor old past → id ≡ conn_text conn → clients ≡ map (λ (item : PresenceItem). item.client) (filter (is_on id) old.members) → stamp ≡ max now old.clock
+pub goes : (site : List ℕ) (past : List ChannelEvent) (conn now stamp : ℕ) (id : List ℕ) (clients : List (List ℕ)) (old new : ChannelState) (left : ChanLogView) (place : Option ℕ)
+    → StandsAt site old past → id ≡ conn_text conn → clients ≡ map (λ (item : PresenceItem). item.client) (filter (is_on id) old.members) → stamp ≡ max now old.clock
     → place ≡ option_map (λ (e : Entry). e.place) (left_entry old.log.head stamp conn id clients)
     → ((parts : Parts) → Keeps old.log parts → Keeps left (with_left (left_entry old.log.head stamp conn id clients) parts))
     → ((parts : Parts) → Keeps left parts → Keeps new.log (without_outcome conn parts))
     → ((latest : List PresenceItem) → old.members ≡ members_of latest → new.members ≡ members_of (reverse (left_items (left_entry old.log.head stamp conn id clients)) ++ latest))
     → new.clock ≡ stamp
-    → (place ≡ gone_place past conn now) × StandsFor new (Gone conn now ∷ past)
-goes past conn now stamp id clients old new left place stands named are stamped placed leaves forgets membered clocked =
+    → (place ≡ gone_place site past conn now) × StandsAt site new (Gone conn now ∷ past)
+goes site past conn now stamp id clients old new left place stands named are stamped placed leaves forgets membered clocked =
     let entry = left_entry old.log.head stamp conn id clients in
-    let is = entry_is past conn now stamp id clients old stands named are stamped in
-    let kept : Keeps new.log (without_outcome conn (with_left entry (parts_of past))) = forgets (with_left entry (parts_of past)) (leaves (parts_of past) stands.keeps) in
-    let parts = parts_left conn entry (parts_of past) ∙ sym (gone_leaves past conn now entry is) in (
+    let is = entry_is site past conn now stamp id clients old stands named are stamped in
+    let kept : Keeps new.log (without_outcome conn (with_left entry (parts_of site past))) = forgets (with_left entry (parts_of site past)) (leaves (parts_of site past) stands.keeps) in
+    let parts = parts_left conn entry (parts_of site past) ∙ sym (gone_leaves site past conn now entry is) in (
       placed ∙ ap (option_map (λ (e : Entry). e.place)) is,
       record {
         keeps = subst (Keeps new.log) parts kept;
-        members = membered (told (decisions past)) stands.members ∙ members_left (log past) entry ∙ ap (λ (e : Option Entry). members (log past ++ option_to_list e)) is;
+        members = membered (told (decisions site past)) stands.members ∙ members_left (log site past) entry ∙ ap (λ (e : Option Entry). members (log site past ++ option_to_list e)) is;
         clock = clocked ∙ stamped ∙ ap (max now) stands.clock;
       },
     )

@@ -1,6 +1,7 @@
 -- The members that leave with their connection are told one after another.
 use Rattle.std.proofs.Common.{◌≡◌, ℕ, suc, ◌+◌, Bool, true, false, cond, List, [], ◌∷◌, ◌++◌, length, map, refl, ap, sym, ◌∙◌, arith}
-use Rattle.std.specs.Prelude.{Option, Some, None, ◌==◌, ◌-◌, ◌^◌, reverse, filter, not}
+use Rattle.std.specs.Prelude.{Option, Some, None, ◌==◌, reverse, filter, not}
+use Rattle.rl_numbers.specs.declared.limits.TheConstants.{MAX_PLACE}
 use Rattle.rl_types.specs.declared.messages.Body.TheVariants.{Presence}
 use Rattle.rl_types.specs.declared.messages.Entry.{Entry}
 use Rattle.std.specs.List.{list_all}
@@ -55,7 +56,7 @@ leaves_leave place now k (member ∷ members) = leaves_leave place now (suc k) m
 
 -- THE MEMBERS AFTER THE ENTRY
 
-left_is : (head now conn : ℕ) (id : List ℕ) (clients : List (List ℕ)) → (clients ≡ [] → ⊥) → (head == 2 ^ 64 - 2) ≡ false
+left_is : (head now conn : ℕ) (id : List ℕ) (clients : List (List ℕ)) → (clients ≡ [] → ⊥) → (head == MAX_PLACE) ≡ false
     → left_items (left_entry head now conn id clients) ≡ leaves_of (head + 1) now id 0 clients
 left_is head now conn id [] some below = absurd (some refl)
 left_is head now conn id (client ∷ clients) some below = ap by_test below
@@ -64,7 +65,7 @@ left_is head now conn id (client ∷ clients) some below = ap by_test below
     by_test full = left_items (cond full None (Some (record { place = head + 1; stamp = now; conn = conn; serial = None; body = Presence (leaves_of (head + 1) now id 0 (client ∷ clients)) })))
 
 pub left_members : (head now conn : ℕ) (id : List ℕ) (clients : List (List ℕ)) (old new latest : List PresenceItem)
-    → (clients ≡ [] → ⊥) → (head == 2 ^ 64 - 2) ≡ false
+    → (clients ≡ [] → ⊥) → (head == MAX_PLACE) ≡ false
     → clients ≡ map (λ item. item.client) (filter (is_on id) old)
     → ((leaves : List PresenceItem) → list_all (λ item. not (enters item.action)) leaves ≡ true → map key_of leaves ≡ map key_of (filter (is_on id) old) → new ≡ members_of (reverse leaves ++ latest))
     → new ≡ members_of (reverse (left_items (left_entry head now conn id clients)) ++ latest)
@@ -86,4 +87,4 @@ entry_same head now conn id old = by_members (filter (is_on id) old) (leaves_sam
     by_members (member ∷ members) same = ap by_items same
       where
         by_items : List PresenceItem → Option Entry
-        by_items items = cond (head == 2 ^ 64 - 2) None (Some (record { place = head + 1; stamp = now; conn = conn; serial = None; body = Presence items }))
+        by_items items = cond (head == MAX_PLACE) None (Some (record { place = head + 1; stamp = now; conn = conn; serial = None; body = Presence items }))

@@ -1,10 +1,12 @@
 pub mod Goes
 pub mod Items
 pub mod Left
+pub mod Operations
 pub mod Parts
 pub mod PresenceItems
 pub mod Puts
 pub mod Replies
+pub mod Roots
 pub mod Rules
 pub mod Taken
 pub mod Told

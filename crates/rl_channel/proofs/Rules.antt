@@ -1,9 +1,11 @@
 -- The rules of a Put up to the limit of members, and what comes after them.
 use Rattle.std.proofs.Common.{◌≡◌, ℕ, Bool, true, false, cond, refl, ap, sym, ◌∙◌}
-use Rattle.std.specs.Prelude.{Option, Some, None, nat_lt, ◌==◌, ◌||◌, ◌^◌, ◌-◌}
+use Rattle.std.specs.Prelude.{Option, Some, None, nat_lt, ◌==◌, ◌||◌}
 use Rattle.rl_types.specs.declared.channel.Verdict.{Verdict}
 use Rattle.rl_types.specs.declared.channel.Outcome.{Outcome}
 use Rattle.rl_types.specs.declared.messages.Body.{Body}
+use Rattle.rl_numbers.specs.declared.limits.TheConstants.{MAX_MESSAGE_SIZE, MAX_PLACE}
+use Rattle.rl_numbers.specs.declared.codes.TheConstants.{LOG_FULL, TOO_LONG}
 use Rattle.rl_types.specs.Weight.{body_weight}
 use Rattle.rl_model.specs.Ids.{has_long}
 use Rattle.rl_model.specs.Verdict.{Judgement, Stale, Again, Known, Fails, Adds, judged_by_serial, judged_by_id, judged_by_rules, fails_or, own_rule}
@@ -24,8 +26,8 @@ after_test code false now goes = goes
 
 rules_go : (head : ℕ) (body : Body) → Goes (judged_by_rules head body)
 rules_go head body =
-    after_test 104 (nat_lt 65536 (body_weight body) || has_long body) (λ next. cond (head == 2 ^ 64 - 2) (Fails 116) (fails_or (own_rule body) next))
-    (after_test 116 (head == 2 ^ 64 - 2) (fails_or (own_rule body)) (own_goes (own_rule body)))
+    after_test TOO_LONG (nat_lt MAX_MESSAGE_SIZE (body_weight body) || has_long body) (λ next. cond (head == MAX_PLACE) (Fails LOG_FULL) (fails_or (own_rule body) next))
+    (after_test LOG_FULL (head == MAX_PLACE) (fails_or (own_rule body)) (own_goes (own_rule body)))
 
 id_goes : (found : Option ℕ) (now : Judgement → Judgement) → Goes now → Goes (λ next. judged_by_id found (now next))
 id_goes None now goes = goes

@@ -4,6 +4,7 @@ use Rattle.std.specs.Prelude.{Option, Some, None, is_some, nat_lt, find, filter_
 use Rattle.std.specs.List.{cons_option}
 use Rattle.std.proofs.lemmas.List.{reverse-append}
 use Rattle.rl_ids.specs.declared.members.MemberKey.{MemberKey}
+use Rattle.rl_numbers.specs.declared.limits.TheConstants.{MAX_MEMBERS}
 use Rattle.rl_types.specs.declared.presence.PresenceItem.{PresenceItem}
 use Rattle.rl_types.specs.declared.messages.Entry.{Entry}
 use Rattle.rl_channel.specs.Changes.{IsAfter}
@@ -87,13 +88,13 @@ members_counted items = count_same items (keys_in items) ∙ ap (count_standing 
 abbrev marked_too_many : List Mark → List Mark → Bool
 marked_too_many latest [] = false
 marked_too_many latest (mark ∷ marks) =
-    nat_lt 2000 (count_standing (mark ∷ latest) (keys_marked (mark ∷ latest))) || marked_too_many (mark ∷ latest) marks
+    nat_lt MAX_MEMBERS (count_standing (mark ∷ latest) (keys_marked (mark ∷ latest))) || marked_too_many (mark ∷ latest) marks
 
 too_many_marked : (latest items : List PresenceItem) → has_too_many latest items ≡ marked_too_many (map mark_of latest) (map mark_of items)
 too_many_marked latest [] = refl
 too_many_marked latest (item ∷ items) =
-    ap (λ (n : ℕ). nat_lt 2000 n || has_too_many (item ∷ latest) items) (members_counted (item ∷ latest))
-    ∙ ap (λ (b : Bool). nat_lt 2000 (count_standing (mark_of item ∷ map mark_of latest) (keys_marked (mark_of item ∷ map mark_of latest))) || b) (too_many_marked (item ∷ latest) items)
+    ap (λ (n : ℕ). nat_lt MAX_MEMBERS n || has_too_many (item ∷ latest) items) (members_counted (item ∷ latest))
+    ∙ ap (λ (b : Bool). nat_lt MAX_MEMBERS (count_standing (mark_of item ∷ map mark_of latest) (keys_marked (mark_of item ∷ map mark_of latest))) || b) (too_many_marked (item ∷ latest) items)
 
 marks_filled : (conn serial now k : ℕ) (items : List PresenceItem) → map mark_of (filled_presence conn serial now k items) ≡ map mark_of (map (told_by conn) items)
 marks_filled conn serial now k [] = refl
@@ -116,22 +117,22 @@ reverse_one : {A : Type 0} (x : A) (xs rest : List A) → reverse (x ∷ xs) ++ 
 reverse_one x xs rest = ap (λ (l : List _). l ++ rest) (reverse-append (x ∷ []) xs) ∙ append_assoc_ (reverse xs) (x ∷ []) rest
 
 pub too_many_more : (latest items : List PresenceItem) (item : PresenceItem)
-    → has_too_many latest (items ++ item ∷ []) ≡ (has_too_many latest items || nat_lt 2000 (length (members_of (item ∷ reverse items ++ latest))))
-too_many_more latest [] item = or_false (nat_lt 2000 (length (members_of (item ∷ latest))))
+    → has_too_many latest (items ++ item ∷ []) ≡ (has_too_many latest items || nat_lt MAX_MEMBERS (length (members_of (item ∷ reverse items ++ latest))))
+too_many_more latest [] item = or_false (nat_lt MAX_MEMBERS (length (members_of (item ∷ latest))))
   where
     or_false : (b : Bool) → (b || false) ≡ b
     or_false true = refl
     or_false false = refl
 too_many_more latest (first ∷ items) item =
-    let test = nat_lt 2000 (length (members_of (first ∷ latest))) in
+    let test = nat_lt MAX_MEMBERS (length (members_of (first ∷ latest))) in
     ap (λ (b : Bool). test || b) (too_many_more (first ∷ latest) items item)
-    ∙ sym (or_assoc test (has_too_many (first ∷ latest) items) (nat_lt 2000 (length (members_of (item ∷ reverse items ++ first ∷ latest)))))
-    ∙ ap (λ (l : List PresenceItem). (test || has_too_many (first ∷ latest) items) || nat_lt 2000 (length (members_of (item ∷ l)))) (sym (reverse_one first items latest))
+    ∙ sym (or_assoc test (has_too_many (first ∷ latest) items) (nat_lt MAX_MEMBERS (length (members_of (item ∷ reverse items ++ first ∷ latest)))))
+    ∙ ap (λ (l : List PresenceItem). (test || has_too_many (first ∷ latest) items) || nat_lt MAX_MEMBERS (length (members_of (item ∷ l)))) (sym (reverse_one first items latest))
 
 -- an item in which the walk finds too many shows it of the whole
 pub too_many_early : (latest items rest : List PresenceItem) → has_too_many latest items ≡ true → has_too_many latest (items ++ rest) ≡ true
 too_many_early latest [] rest h = absurd (cc)
-too_many_early latest (item ∷ items) rest h = by_test (nat_lt 2000 (length (members_of (item ∷ latest)))) h (too_many_early (item ∷ latest) items rest)
+too_many_early latest (item ∷ items) rest h = by_test (nat_lt MAX_MEMBERS (length (members_of (item ∷ latest)))) h (too_many_early (item ∷ latest) items rest)
   where
     by_test : (test : Bool) → (test || has_too_many (item ∷ latest) items) ≡ true
         → (has_too_many (item ∷ latest) items ≡ true → has_too_many (item ∷ latest) (items ++ rest) ≡ true)
@@ -139,23 +140,23 @@ too_many_early latest (item ∷ items) rest h = by_test (nat_lt 2000 (length (me
     by_test true h more = refl
     by_test false h more = more h
 
--- the members after one more item, where at most 2,000 stand
+-- the members after one more item, where not too many stand
 pub after_more : (latest items : List PresenceItem) (item : PresenceItem) (after new : List PresenceItem)
     → IsAfter latest items (Some after) → (after ≡ members_of (reverse items ++ latest) → new ≡ members_of (item ∷ (reverse items ++ latest)))
-    → length new ≤ 2000 → IsAfter latest (items ++ item ∷ []) (Some new)
+    → length new ≤ MAX_MEMBERS → IsAfter latest (items ++ item ∷ []) (Some new)
 after_more latest items item after new is step few =
     let made = step is.0 in
-    let within : nat_lt 2000 (length (members_of (item ∷ (reverse items ++ latest)))) ≡ false = rw (← made) (grind arith) in (
+    let within : nat_lt MAX_MEMBERS (length (members_of (item ∷ (reverse items ++ latest)))) ≡ false = rw (← made) (grind arith) in (
       made ∙ ap (λ (l : List PresenceItem). members_of (l ++ latest)) (sym (reverse-append items (item ∷ []))),
-      too_many_more latest items item ∙ ap (λ (b : Bool). b || nat_lt 2000 (length (members_of (item ∷ (reverse items ++ latest))))) is.1 ∙ within,
+      too_many_more latest items item ∙ ap (λ (b : Bool). b || nat_lt MAX_MEMBERS (length (members_of (item ∷ (reverse items ++ latest))))) is.1 ∙ within,
     )
 
--- more than 2,000 stand after one more item, and so after some of the whole
+-- too many stand after one more item, and so after some of the whole
 pub after_too_many : (latest items rest : List PresenceItem) (item : PresenceItem) (after new : List PresenceItem)
     → IsAfter latest items (Some after) → (after ≡ members_of (reverse items ++ latest) → new ≡ members_of (item ∷ (reverse items ++ latest)))
-    → 2000 < length new → has_too_many latest ((items ++ item ∷ []) ++ rest) ≡ true
+    → MAX_MEMBERS < length new → has_too_many latest ((items ++ item ∷ []) ++ rest) ≡ true
 after_too_many latest items rest item after new is step many =
     let made = step is.0 in
-    let passed : nat_lt 2000 (length (members_of (item ∷ (reverse items ++ latest)))) ≡ true = rw (← made) (grind arith) in
+    let passed : nat_lt MAX_MEMBERS (length (members_of (item ∷ (reverse items ++ latest)))) ≡ true = rw (← made) (grind arith) in
     too_many_early latest (items ++ item ∷ []) rest
-    (too_many_more latest items item ∙ ap (λ (b : Bool). b || nat_lt 2000 (length (members_of (item ∷ (reverse items ++ latest))))) is.1 ∙ passed)
+    (too_many_more latest items item ∙ ap (λ (b : Bool). b || nat_lt MAX_MEMBERS (length (members_of (item ∷ (reverse items ++ latest))))) is.1 ∙ passed)

@@ -1,5 +1,6 @@
 -- What is told of the members that leave with their connection, by their client ids.
-use Rattle.std.specs.Prelude.{ℕ, suc, ◌+◌, ◌-◌, ◌^◌, ◌==◌, if◌then◌else◌, List, [], ◌∷◌, Option, Some, None}
+use Rattle.std.specs.Prelude.{ℕ, suc, ◌+◌, ◌==◌, if◌then◌else◌, List, [], ◌∷◌, Option, Some, None}
+use Rattle.rl_numbers.specs.declared.limits.TheConstants.{MAX_PLACE}
 use Rattle.rl_types.specs.declared.presence.PresenceItem.{PresenceItem}
 use Rattle.rl_types.specs.declared.presence.PresenceAction.TheVariants as presence
 use Rattle.rl_types.specs.declared.messages.Body.TheVariants.{Presence}
@@ -29,7 +30,7 @@ leaves_of place now conn index (client ∷ clients) = leave_of place now conn in
 abbrev pub left_entry : ℕ → ℕ → ℕ → List ℕ → List (List ℕ) → Option Entry
 left_entry head now conn id [] = None
 left_entry head now conn id (client ∷ clients) =
-    if head == 2 ^ 64 - 2 then None
+    if head == MAX_PLACE then None
     else Some (record {
       place = head + 1;
       stamp = now;

@@ -1,6 +1,7 @@
 -- What a Put is answered, and what events make of what a channel keeps.
-use Rattle.std.specs.Prelude.{◌≡◌, List, ℕ, ◌-◌, ◌&&◌, Bool, false, nat_le, Option, Some, None, nat_lt, ◌==◌, if◌then◌else◌}
+use Rattle.std.specs.Prelude.{◌≡◌, List, ◌∷◌, ℕ, ◌-◌, ◌&&◌, Bool, false, nat_le, Option, Some, None, nat_lt, ◌==◌, if◌then◌else◌}
 use Rattle.rl_types.specs.declared.channel.ChannelEvent.{ChannelEvent}
+use Rattle.rl_types.specs.declared.channel.ChannelEvent.TheVariants.{Put}
 use Rattle.rl_types.specs.declared.channel.Verdict.{Verdict}
 use Rattle.rl_types.specs.declared.channel.Verdict.TheVariants.{Done, Old}
 use Rattle.rl_types.specs.declared.channel.Outcome.{Outcome}
@@ -9,7 +10,8 @@ use Rattle.rl_types.specs.declared.messages.Given.{Given}
 use Rattle.rl_types.specs.declared.messages.Given.TheVariants.{Ours}
 use Rattle.rl_types.specs.declared.messages.Body.{Body}
 use Rattle.rl_types.specs.declared.messages.Entry.{Entry}
-use Rattle.rl_model.specs.Verdict.{Judgement, Stale, Again, Known, Fails, Adds, judged_by_serial, judged_by_id, judged_by_rules, decisions, head, kept, remembered_of}
+use Rattle.rl_model.specs.Verdict.{Judgement, Stale, Again, Known, Fails, Adds, judged_by_serial, judged_by_id, judged_by_rules, decisions, head, kept, remembered_of, verdict}
+use Rattle.rl_model.specs.History.{setting}
 use Rattle.rl_model.specs.Parts.{Parts, with_entry, with_outcome, without_outcome}
 
 -- the answer to a Put that adds no entry
@@ -40,10 +42,20 @@ abbrev pub gone_parts : ℕ → Option Entry → Parts → Parts
 gone_parts conn (Some entry) parts = without_outcome conn (with_entry entry None parts)
 gone_parts conn None parts = without_outcome conn parts
 
--- no rule before the limit of members decides this Put after this history
-abbrev pub Passes : List ChannelEvent → ℕ → ℕ → Body → Type 0
-Passes past conn serial body =
-    settled (head past) (early serial (kept conn (decisions past)) (remembered_of body (decisions past)) (head past) body Adds) ≡ None
+-- a Put of a channel of this site judged after this history by the rules up to the limit of members; the next
+-- judgement decides where none of them does
+abbrev pub early_at : List ℕ → List ChannelEvent → ℕ → ℕ → Body → Judgement → Judgement
+early_at site past conn serial body next =
+    early serial (kept conn (decisions site past)) (remembered_of body (decisions site past)) (head site past) body next
+
+-- the answer to it, where one of them decides
+abbrev pub settled_at : List ℕ → List ChannelEvent → ℕ → ℕ → Body → Option Verdict
+settled_at site past conn serial body = settled (head site past) (early_at site past conn serial body Adds)
+
+-- what a Put is answered after this history
+abbrev pub verdict_of : List ℕ → List ChannelEvent → ℕ → ℕ → Body → ℕ → Verdict
+verdict_of site past conn serial body now =
+    verdict (setting site (Put conn serial body now ∷ past)) (decisions site past) conn serial body
 
 -- the serial is of this epoch, and its place is retained in a log with this first place and this head
 abbrev pub goes_on : ℕ → ℕ → ℕ → Option Given → Bool

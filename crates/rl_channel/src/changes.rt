@@ -6,19 +6,18 @@ ghost use Rattle.rl_channel.specs.Changes.{changed, IsAfter, IsAfterPut};
 
 use rl_ids::{Copied, MemberKey, NoMemory};
 use rl_members::Members;
+use rl_numbers::codes::{MEMBER_LIMIT, POOL_LIMIT};
+use rl_numbers::limits::MAX_MEMBERS;
 use rl_types::{Body, PresenceAction, PresenceItem};
 use std::alloc::Global;
-
-// The most members that stand.
-const MOST_MEMBERS: usize = 2000;
 
 // What a put makes of the members.
 #[derive(Drop)]
 pub enum After {
     Same,
     Changed(Members),
-    // More than may stand would, after some of its items.
-    TooMany,
+    // A rule refuses the put, with this code.
+    Refuses(u32),
 }
 
 fn enters(action: PresenceAction) -> bool
@@ -48,7 +47,7 @@ fn take_item(alloc: Global, members: &mut Members, item: &PresenceItem) -> Resul
     Ok(())
 }
 
-// The members after these items, one after another; none where more than 2,000 stand after some of them.
+// The members after these items, one after another; none where too many stand after some of them.
 pub fn members_after(
     alloc: Global,
     members: &Members,
@@ -59,7 +58,7 @@ pub fn members_after(
     let mut after = members.copy(alloc)?;
     for item in items {
         take_item(alloc, &mut after, item)?;
-        if after.count() > MOST_MEMBERS {
+        if after.count() > MAX_MEMBERS {
             return Ok(None);
         }
     }
@@ -74,8 +73,9 @@ pub fn after_put(alloc: Global, members: &Members, body: &Body) -> Result<After,
         Body::Messages(_) => Ok(After::Same),
         Body::Presence(items) => match members_after(alloc, members, items.as_slice())? {
             Some(after) => Ok(After::Changed(after)),
-            None => Ok(After::TooMany),
+            None => Ok(After::Refuses(MEMBER_LIMIT)),
         },
+        Body::Objects(_) => Ok(After::Refuses(POOL_LIMIT)),
     }
 }
 

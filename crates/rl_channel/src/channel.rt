@@ -1,24 +1,30 @@
 ghost use Rattle.std.specs.Prelude.{◌≡◌, ◌≢◌, ◌||◌, ◌==◌, not, if◌then◌else◌, ◌+◌, ◌-◌, ◌^◌, ◌<◌, ◌≤◌, ◌∷◌, [], List, IfOk, OnOk, OnErr, length, max, Option, Some, None};
 ghost use Rattle.rl_types.specs.declared.channel.ChannelEvent.{ChannelEvent};
-ghost use Rattle.rl_types.specs.declared.channel.Outcome.TheVariants.{Taken};
+ghost use Rattle.rl_types.specs.declared.channel.Outcome.TheVariants.{Taken, Refused};
 ghost use Rattle.rl_types.specs.declared.channel.Verdict.TheVariants.{Done};
 ghost use Rattle.std.specs.Option.{option_copied};
+ghost use Rattle.rl_types.specs.Weight.{body_weight};
 ghost use Rattle.rl_model.specs.Members.{is_last_page, members, page_items};
 ghost use Rattle.rl_model.specs.Parts.{Parts, parts_of, with_entry, with_outcome};
 ghost use Rattle.rl_model.specs.Reply.{asked_place, is_resumed, joined_place, read_reply};
-ghost use Rattle.rl_model.specs.Verdict.{Adds, decisions, head, kept, log, remembered_of, verdict};
+ghost use Rattle.rl_model.specs.Objects.{is_last_states, objects_kept, page_states};
+ghost use Rattle.rl_model.specs.Verdict.{decisions, head, log, remembered_of};
 ghost use Rattle.rl_chanlog.specs.Keeps.{Keeps};
-ghost use Rattle.rl_channel.specs.State.{StandsFor};
-ghost use Rattle.rl_channel.specs.Steps.{early, goes_on, settled, settled_parts, Passes};
+ghost use Rattle.rl_channel.specs.State.{IsDecided, StandsFor};
+ghost use Rattle.rl_channel.specs.Steps.{goes_on, settled_at, settled_parts};
 ghost use Rattle.rl_channel.specs.Changes.{changed};
 
 use crate::changes::{After, after_put, change};
 use crate::filling::{copied_id, filled, given_id};
 use crate::judging::judged_early;
+use crate::objects::states_after;
 use rl_chanlog::ChanLog;
-use rl_ids::{ConnNo, Epoch, List, MemberKey, Moment, NoMemory, Place, SiteCode, Text};
+use rl_ids::{
+    ConnNo, Epoch, List, MemberKey, Moment, NoMemory, ObjectId, Place, SiteCode, Text,
+};
 use rl_members::Members;
-use rl_types::{Body, Entry, Given, Outcome, PresenceItem, ReadReply, Verdict};
+use rl_numbers::limits::{MAX_MESSAGE_SIZE, MAX_PLACE};
+use rl_types::{Body, Entry, Given, ObjectState, Outcome, PresenceItem, ReadReply, Verdict};
 use std::alloc::Global;
 use std::marker::Model;
 
@@ -42,9 +48,6 @@ pub struct Joined {
     /// and no member stands.
     pub presence: bool,
 }
-
-// 105: more than 2,000 members would stand.
-const MEMBER_LIMIT: Verdict = Verdict::Done(Outcome::Refused(105));
 
 /// A channel (RTL): its log within bounds, the members that stand, its clock.
 ///
@@ -86,7 +89,7 @@ impl Channel {
     /// What it holds of its log. It stands for the log, the ids and the outcomes of each history that the
     /// channel stands for.
     pub fn log(&self) -> &ChanLog
-        ensures { (past : List ChannelEvent) → StandsFor self.now past → Keeps result.now (parts_of past) }
+        ensures { (past : List ChannelEvent) → StandsFor self.now past → Keeps result.now (parts_of self.now.setup.site past) }
     {
         &self.log
     }
@@ -112,7 +115,7 @@ impl Channel {
         body: Body,
         now: Moment,
     ) -> Result<Verdict, NoMemory>
-        ensures decided { IfOk result (λ answer. (past : List ChannelEvent) → StandsFor self.old past → (answer ≡ verdict (decisions past) conn serial body) × StandsFor self.new (ChannelEvent.Put conn serial body now ∷ past)) }
+        ensures decided { IfOk result (λ answer. (past : List ChannelEvent) → StandsFor self.old past → IsDecided self.old self.new past (record { conn = conn; serial = serial; body = body; now = now }) answer) }
         ensures err { OnErr result ((past : List ChannelEvent) → StandsFor self.old past → StandsFor self.new past) }
         ensures setup { self.new.setup ≡ self.old.setup }
     {
@@ -127,7 +130,7 @@ impl Channel {
 
     // The place of the entry whose put gave the same id, where it is remembered.
     fn remembered(&self, body: &Body) -> Option<Place>
-        ensures { (past : List ChannelEvent) → StandsFor self.now past → result ≡ remembered_of body.now (decisions past) }
+        ensures { (past : List ChannelEvent) → StandsFor self.now past → result ≡ remembered_of body.now (decisions self.now.setup.site past) }
     {
         match given_id(body) {
             Some(id) => self.log.holds_id(id.as_str()),
@@ -137,8 +140,9 @@ impl Channel {
 
     // The answer to a put that a rule before the limit of members decides.
     fn judged(&self, conn: ConnNo, serial: u64, body: &Body) -> Option<Verdict>
-        ensures value { (past : List ChannelEvent) → StandsFor self.now past → result ≡ settled (head past) (early serial (kept conn (decisions past)) (remembered_of body.now (decisions past)) (head past) body.now Adds) }
-        ensures open { result ≡ None → self.now.log.head < 2 ^ 64 - 2 }
+        ensures value { (past : List ChannelEvent) → StandsFor self.now past → result ≡ settled_at self.now.setup.site past conn serial body.now }
+        ensures open { result ≡ None → self.now.log.head < MAX_PLACE }
+        ensures light { result ≡ None → body_weight body.now ≤ MAX_MESSAGE_SIZE }
     {
         let last = self.log.last_of(conn);
         let found = self.remembered(body);
@@ -169,6 +173,27 @@ impl Channel {
 }
 
 impl Channel {
+    // A put that a rule after the early ones refuses.
+    fn refuse(
+        &mut self,
+        conn: ConnNo,
+        serial: u64,
+        code: u32,
+        now: Moment,
+    ) -> Result<Verdict, NoMemory>
+        ensures answer { IfOk result (λ answer. answer ≡ Done (Refused code)) }
+        ensures ok { OnOk result ((parts : Parts) → Keeps self.old.log parts → Keeps self.new.log (settled_parts conn serial (Done (Refused code)) parts)) }
+        ensures err { OnErr result ((parts : Parts) → Keeps self.old.log parts → Keeps self.new.log parts) }
+        ensures members { self.new.members ≡ self.old.members }
+        ensures clock { OnOk result (self.new.clock ≡ max now self.old.clock) }
+        ensures same_clock { OnErr result (self.new.clock ≡ self.old.clock) }
+        ensures setup { self.new.setup ≡ self.old.setup }
+    {
+        let answer = Verdict::Done(Outcome::Refused(code));
+        self.settle(conn, serial, &answer, now)?;
+        Ok(answer)
+    }
+
     // A put that no rule before the limit of members decides.
     fn add(
         &mut self,
@@ -178,23 +203,21 @@ impl Channel {
         body: Body,
         now: Moment,
     ) -> Result<Verdict, NoMemory>
-        requires open { self.old.log.head < 2 ^ 64 - 2 }
-        ensures decided { IfOk result (λ answer. (past : List ChannelEvent) → StandsFor self.old past → Passes past conn serial body → (answer ≡ verdict (decisions past) conn serial body) × StandsFor self.new (ChannelEvent.Put conn serial body now ∷ past)) }
+        requires open { self.old.log.head < MAX_PLACE }
+        requires light { body_weight body ≤ MAX_MESSAGE_SIZE }
+        ensures decided { IfOk result (λ answer. (past : List ChannelEvent) → StandsFor self.old past → settled_at self.old.setup.site past conn serial body ≡ None → IsDecided self.old self.new past (record { conn = conn; serial = serial; body = body; now = now }) answer) }
         ensures err { OnErr result ((past : List ChannelEvent) → StandsFor self.old past → StandsFor self.new past) }
         ensures setup { self.new.setup ≡ self.old.setup }
     {
         let stamp = self.clock_at(now);
         let id = copied_id(alloc, &body)?;
-        let body = filled(alloc, conn, serial, stamp, body)?;
+        let place = Place(self.log.head().0 + 1);
+        let body = filled(alloc, &self.setup.site, place, conn, serial, stamp, body)?;
         let members = match after_put(alloc, &self.members, &body)? {
-            After::TooMany => {
-                self.settle(conn, serial, &MEMBER_LIMIT, now)?;
-                return Ok(MEMBER_LIMIT);
-            }
+            After::Refuses(code) => return self.refuse(conn, serial, code, now),
             After::Same => None,
             After::Changed(members) => Some(members),
         };
-        let place = Place(self.log.head().0 + 1);
         let entry = Entry {
             place,
             stamp,
@@ -216,7 +239,7 @@ impl Channel {
         members: Option<Members>,
     ) -> Result<(), NoMemory>
         requires place { entry.place ≡ self.old.log.head + 1 }
-        requires within { entry.place ≤ 2 ^ 64 - 2 }
+        requires within { entry.place ≤ MAX_PLACE }
         requires later { self.old.log.newest ≤ entry.stamp }
         ensures ok { OnOk result ((parts : Parts) → Keeps self.old.log parts → Keeps self.new.log (with_outcome entry.conn serial (Taken entry.place) (with_entry entry id parts))) }
         ensures err { OnErr result ((parts : Parts) → Keeps self.old.log parts → Keeps self.new.log parts) }
@@ -249,9 +272,9 @@ impl Channel {
     /// the serial is of this run's epoch and its place is retained, else the head. It takes no memory, and
     /// changes nothing: the channel stands for the history with the join too.
     pub fn join(&self, asked: &Option<Given>) -> Joined
-        ensures place { (past : List ChannelEvent) → StandsFor self.now past → result.place ≡ joined_place self.now.setup.epoch past asked.now }
-        ensures resumed { (past : List ChannelEvent) → StandsFor self.now past → result.resumed ≡ is_resumed self.now.setup.epoch past asked.now }
-        ensures presence { (past : List ChannelEvent) → StandsFor self.now past → result.presence ≡ (not (result.place == head past) || not (length (members (log past)) == 0)) }
+        ensures place { (past : List ChannelEvent) → StandsFor self.now past → result.place ≡ joined_place self.now.setup.epoch self.now.setup.site past asked.now }
+        ensures resumed { (past : List ChannelEvent) → StandsFor self.now past → result.resumed ≡ is_resumed self.now.setup.epoch self.now.setup.site past asked.now }
+        ensures presence { (past : List ChannelEvent) → StandsFor self.now past → result.presence ≡ (not (result.place == head self.now.setup.site past) || not (length (members (log self.now.setup.site past)) == 0)) }
         ensures stands { (past : List ChannelEvent) → StandsFor self.now past → StandsFor self.now (ChannelEvent.Join asked.now ∷ past) }
     {
         let head = self.log.head();
@@ -266,7 +289,7 @@ impl Channel {
 
     // A serial is given, it is of this run's epoch, and its place is retained.
     fn resumes(&self, asked: &Option<Given>) -> bool
-        ensures { (past : List ChannelEvent) → StandsFor self.now past → result ≡ is_resumed self.now.setup.epoch past asked.now }
+        ensures { (past : List ChannelEvent) → StandsFor self.now past → result ≡ is_resumed self.now.setup.epoch self.now.setup.site past asked.now }
     {
         goes_on(
             self.setup.epoch,
@@ -303,10 +326,21 @@ fn asked_place(asked: &Option<Given>, resumed: bool, head: Place) -> Place
 }
 
 /// A page of the members (RTP18).
-#[derive(Debug, Drop, PartialEq, Eq)]
+#[derive(Debug, Drop)]
 pub struct MemberPage {
     /// The members, each as PRESENT, in order of key.
     pub items: List<PresenceItem>,
+    /// None remain after them.
+    pub last: bool,
+    /// The place of the last entry when the page was made.
+    pub head: Place,
+}
+
+/// A page of the objects (RTO5).
+#[derive(Debug, Drop)]
+pub struct ObjectPage {
+    /// The objects, in order of id.
+    pub states: List<ObjectState>,
     /// None remain after them.
     pub last: bool,
     /// The place of the last entry when the page was made.
@@ -318,7 +352,7 @@ impl Channel {
     /// retained, exactly where the entries after the place are not all retained or the place is past the head.
     /// The channel stands for the history with the read too.
     pub fn read(&self, alloc: Global, from: Place, max: usize) -> Result<ReadReply, NoMemory>
-        ensures value { IfOk result (λ answer. (past : List ChannelEvent) → StandsFor self.now past → answer ≡ read_reply past from max) }
+        ensures value { IfOk result (λ answer. (past : List ChannelEvent) → StandsFor self.now past → answer ≡ read_reply self.now.setup.site past from max) }
         ensures stands { (past : List ChannelEvent) → StandsFor self.now past → StandsFor self.now (ChannelEvent.Read from max ∷ past) }
     {
         self.log.read(alloc, from, max)
@@ -332,9 +366,9 @@ impl Channel {
         after: Option<&MemberKey>,
         max: usize,
     ) -> Result<MemberPage, NoMemory>
-        ensures items { IfOk result (λ page. (past : List ChannelEvent) → StandsFor self.now past → page.items ≡ page_items (option_copied after.entry) max (members (log past))) }
-        ensures last { IfOk result (λ page. (past : List ChannelEvent) → StandsFor self.now past → page.last ≡ is_last_page (option_copied after.entry) max (members (log past))) }
-        ensures head { IfOk result (λ page. (past : List ChannelEvent) → StandsFor self.now past → page.head ≡ head past) }
+        ensures items { IfOk result (λ page. (past : List ChannelEvent) → StandsFor self.now past → page.items ≡ page_items (option_copied after.entry) max (members (log self.now.setup.site past))) }
+        ensures last { IfOk result (λ page. (past : List ChannelEvent) → StandsFor self.now past → page.last ≡ is_last_page (option_copied after.entry) max (members (log self.now.setup.site past))) }
+        ensures head { IfOk result (λ page. (past : List ChannelEvent) → StandsFor self.now past → page.head ≡ head self.now.setup.site past) }
         ensures stands { (past : List ChannelEvent) → StandsFor self.now past → StandsFor self.now (ChannelEvent.MemberPage (option_copied after.entry) max ∷ past) }
     {
         let (items, last) = self.members.after(alloc, after, max)?;
@@ -342,14 +376,26 @@ impl Channel {
         Ok(MemberPage { items, last, head })
     }
 
-    /// How many members stand.
-    pub fn member_count(&self) -> usize
-        ensures { (past : List ChannelEvent) → StandsFor self.now past → result ≡ length (members (log past)) }
+    /// The first objects past an id, at most `max` of them, up to the one that brings their weight to
+    /// [`PAGE_WEIGHT`] (RTO5). A channel keeps no objects yet, so there is the root alone. The channel stands for
+    /// the history with the page too.
+    pub fn object_page(
+        &self,
+        alloc: Global,
+        after: Option<&ObjectId>,
+        max: usize,
+    ) -> Result<ObjectPage, NoMemory>
+        ensures states { IfOk result (λ page. page.states ≡ page_states (option_copied after.entry) max objects_kept) }
+        ensures last { IfOk result (λ page. page.last ≡ is_last_states (option_copied after.entry) max objects_kept) }
+        ensures head { IfOk result (λ page. (past : List ChannelEvent) → StandsFor self.now past → page.head ≡ head self.now.setup.site past) }
+        ensures stands { (past : List ChannelEvent) → StandsFor self.now past → StandsFor self.now (ChannelEvent.ObjectPage (option_copied after.entry) max ∷ past) }
     {
-        self.members.count()
+        let (states, last) = states_after(alloc, after, max)?;
+        let head = self.log.head();
+        Ok(ObjectPage { states, last, head })
     }
 
-    /// Time passes: entries older than 120,000 ms are not retained any more (RTN15g). It takes no memory.
+    /// Time passes: entries older than [`MAX_ENTRY_AGE`] are not retained any more (RTN15g). It takes no memory.
     pub fn tick(&mut self, now: Moment)
         ensures stands { (past : List ChannelEvent) → StandsFor self.old past → StandsFor self.new (ChannelEvent.Tick now ∷ past) }
         ensures setup { self.new.setup ≡ self.old.setup }

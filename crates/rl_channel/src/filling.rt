@@ -1,13 +1,17 @@
-// Ids: which ones a body was given, and the ones that are made for the others.
-ghost use Rattle.std.specs.Prelude.{◌≡◌, IfOk, List};
+// Ids: which ones a body was given, and the ones that are made for the others. Serials of operations.
+ghost use Rattle.std.specs.Prelude.{◌≡◌, ◌≤◌, ◌<◌, ◌^◌, length, IfOk, List};
 ghost use Rattle.std.specs.Option.{option_copied};
-ghost use Rattle.rl_types.specs.declared.messages.Body.TheVariants.{Messages};
+ghost use Rattle.rl_types.specs.declared.messages.Body.TheVariants.{Messages, Objects};
 ghost use Rattle.rl_ids.specs.Forms.{conn_text};
 ghost use Rattle.rl_model.specs.Texts.{made_id};
-ghost use Rattle.rl_model.specs.Ids.{given_id, filled, filled_id, filled_items, filled_presence};
+ghost use Rattle.rl_model.specs.Ids.{given_id, filled, filled_id, filled_items, filled_ops, filled_presence, with_serial};
+ghost use Rattle.rl_types.specs.Weight.{body_weight};
 
-use rl_ids::{ConnNo, Copied, List, Moment, NoMemory, Text, write_conn};
-use rl_types::{Body, Item, PresenceItem};
+use rl_ids::{
+    ConnNo, Copied, List, Moment, NoMemory, OpSerial, Place, SiteCode, Text, write_conn,
+};
+use rl_numbers::limits::MAX_MESSAGE_SIZE;
+use rl_types::{Body, Item, ObjectOp, PresenceItem};
 use std::alloc::Global;
 
 fn first_id(items: &[Item]) -> Option<&Text>
@@ -25,7 +29,7 @@ pub fn given_id(body: &Body) -> Option<&Text>
 {
     match body {
         Body::Messages(items) => first_id(items.as_slice()),
-        Body::Presence(_) => None,
+        Body::Presence(_) | Body::Objects(_) => None,
     }
 }
 
@@ -142,15 +146,60 @@ fn filled_presence(
     Ok(made)
 }
 
-// The body as an entry with this stamp has it.
+fn with_serial(site: &SiteCode, place: Place, index: u16, op: ObjectOp) -> ObjectOp
+    ensures { result ≡ with_serial site.now place index op }
+{
+    let ObjectOp { op, serial: _ } = op;
+    let site = *site;
+    ObjectOp {
+        op,
+        serial: Some(OpSerial { place, index, site }),
+    }
+}
+
+// The operations, each with the serial of its index.
+fn filled_ops(
+    alloc: Global,
+    site: &SiteCode,
+    place: Place,
+    ops: List<ObjectOp>,
+) -> Result<List<ObjectOp>, NoMemory>
+    requires few { length ops < 2 ^ 16 }
+    ensures { IfOk result (λ made. made ≡ filled_ops site.now place 0 ops) }
+{
+    let mut made = List::new(alloc);
+    for op in ops.into_vec() {
+        let index = made.len() as u16;
+        made.push(with_serial(site, place, index, op))?;
+    }
+    Ok(made)
+}
+
+#[tactic(auto, using(crate::proofs::Operations::few_ops))]
+fn filled_objects(
+    alloc: Global,
+    site: &SiteCode,
+    place: Place,
+    ops: List<ObjectOp>,
+) -> Result<Body, NoMemory>
+    requires light { body_weight (Objects ops) ≤ MAX_MESSAGE_SIZE }
+    ensures { IfOk result (λ made. made ≡ Objects (filled_ops site.now place 0 ops)) }
+{
+    Ok(Body::Objects(filled_ops(alloc, site, place, ops)?))
+}
+
+// The body as an entry of this site, at this place and with this stamp has it.
 pub fn filled(
     alloc: Global,
+    site: &SiteCode,
+    place: Place,
     conn: ConnNo,
     serial: u64,
     now: Moment,
     body: Body,
 ) -> Result<Body, NoMemory>
-    ensures { IfOk result (λ made. made ≡ filled conn serial now body) }
+    requires light { body_weight body ≤ MAX_MESSAGE_SIZE }
+    ensures { IfOk result (λ made. made ≡ filled site.now place conn serial now body) }
 {
     match body {
         Body::Messages(items) => Ok(Body::Messages(filled_items(alloc, conn, serial, items)?)),
@@ -158,5 +207,6 @@ pub fn filled(
             let items = filled_presence(alloc, conn, serial, now, items)?;
             Ok(Body::Presence(items))
         }
+        Body::Objects(ops) => filled_objects(alloc, site, place, ops),
     }
 }

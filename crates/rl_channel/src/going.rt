@@ -13,6 +13,7 @@ ghost use Rattle.rl_channel.specs.Leaving.{left_entry, left_items, with_left};
 use crate::channel::Channel;
 use crate::leaving::leaves_of;
 use rl_ids::{ConnNo, List, Moment, NoMemory, Place, Text, write_conn};
+use rl_numbers::limits::MAX_PLACE;
 use rl_types::{Body, Entry};
 use std::alloc::Global;
 
@@ -26,7 +27,7 @@ impl Channel {
         conn: ConnNo,
         now: Moment,
     ) -> Result<Option<Place>, NoMemory>
-        ensures decided { IfOk result (λ place. (past : List ChannelEvent) → StandsFor self.old past → (place ≡ gone_place past conn now) × StandsFor self.new (ChannelEvent.Gone conn now ∷ past)) }
+        ensures decided { IfOk result (λ place. (past : List ChannelEvent) → StandsFor self.old past → (place ≡ gone_place self.old.setup.site past conn now) × StandsFor self.new (ChannelEvent.Gone conn now ∷ past)) }
         ensures err { OnErr result ((past : List ChannelEvent) → StandsFor self.old past → StandsFor self.new past) }
         ensures setup { self.new.setup ≡ self.old.setup }
     {
@@ -59,7 +60,7 @@ impl Channel {
         ensures setup { self.new.setup ≡ self.old.setup }
     {
         let head = self.log.head().0;
-        if clients.is_empty() || head == u64::MAX - 1 {
+        if clients.is_empty() || head == MAX_PLACE {
             return Ok(None);
         }
         let place = Place(head + 1);

@@ -1,28 +1,18 @@
 // How a put is decided, rule by rule, up to the limit of members. An answer is given where a rule decides.
-ghost use Rattle.std.specs.Prelude.{◌≡◌, ◌≢◌, ◌^◌, ◌-◌, None};
+ghost use Rattle.std.specs.Prelude.{◌≡◌, ◌≢◌, ◌≤◌, None};
 ghost use Rattle.std.specs.List.{list_all, list_any};
-ghost use Rattle.rl_types.specs.Weight.{option_len};
+ghost use Rattle.rl_types.specs.Weight.{body_weight, option_len};
 ghost use Rattle.rl_model.specs.Ids.{has_id, has_long, has_mixed_ids, is_long_id, is_long_presence};
 ghost use Rattle.rl_model.specs.Verdict.{Adds, has_no_client, is_bad_action, judged_by_rules, own_rule};
 ghost use Rattle.rl_channel.specs.Steps.{early, settled, settled_by_serial};
 
 use rl_ids::{Place, Text};
+use rl_numbers::codes::{BAD_ACTION, BAD_IDS, LOG_FULL, NO_CLIENT_ID, TOO_LONG};
+use rl_numbers::limits::{
+    MAX_CLIENT_ID, MAX_MESSAGE_ID, MAX_MESSAGE_SIZE, MAX_PLACE, MAX_PRESENCE_DATA,
+    MAX_PRESENCE_ENCODING,
+};
 use rl_types::{Body, Item, Outcome, PresenceAction, PresenceItem, Verdict, weight};
-
-// 104: the body is too long, or an id, or another text of it.
-const TOO_LONG: u32 = 104;
-
-// 116: the log is full.
-const LOG_FULL: u32 = 116;
-
-// 113: some messages have an id and some do not.
-const BAD_IDS: u32 = 113;
-
-// 114: a presence item has no client id.
-const NO_CLIENT_ID: u32 = 114;
-
-// 115: a presence item neither enters, leaves nor changes a member.
-const BAD_ACTION: u32 = 115;
 
 // The answer to a serial that is not above the connection's last one.
 fn judged_by_serial(last: Option<(u64, Outcome)>, serial: u64) -> Option<Verdict>
@@ -42,7 +32,7 @@ fn is_long_id(item: &Item) -> bool
     ensures { result ≡ is_long_id item.now }
 {
     match &item.id {
-        Some(id) => id.len() > 256,
+        Some(id) => id.len() > MAX_MESSAGE_ID,
         None => false,
     }
 }
@@ -59,7 +49,9 @@ fn length_of(text: &Option<Text>) -> usize
 fn is_long_presence(item: &PresenceItem) -> bool
     ensures { result ≡ is_long_presence item.now }
 {
-    item.client.len() > 256 || length_of(&item.encoding) > 256 || length_of(&item.payload) > 4096
+    item.client.len() > MAX_CLIENT_ID
+        || length_of(&item.encoding) > MAX_PRESENCE_ENCODING
+        || length_of(&item.payload) > MAX_PRESENCE_DATA
 }
 
 fn has_long_id(items: &[Item]) -> bool
@@ -81,6 +73,7 @@ fn has_long(body: &Body) -> bool
     match body {
         Body::Messages(items) => has_long_id(items.as_slice()),
         Body::Presence(items) => has_long_item(items.as_slice()),
+        Body::Objects(_) => false,
     }
 }
 
@@ -156,17 +149,19 @@ fn own_rule(body: &Body) -> Option<u32>
                 None
             }
         }
+        Body::Objects(_) => None,
     }
 }
 
 // The answer to a body that some rule refuses: the code of the first rule that it fails.
 fn judged_by_rules(head: u64, body: &Body) -> Option<Verdict>
     ensures value { result ≡ settled head (judged_by_rules head body.now Adds) }
-    ensures open { result ≡ None → head ≢ 2 ^ 64 - 2 }
+    ensures open { result ≡ None → head ≢ MAX_PLACE }
+    ensures light { result ≡ None → body_weight body.now ≤ MAX_MESSAGE_SIZE }
 {
-    if weight(body) > 65_536 || has_long(body) {
+    if weight(body) > MAX_MESSAGE_SIZE || has_long(body) {
         Some(Verdict::Done(Outcome::Refused(TOO_LONG)))
-    } else if head == u64::MAX - 1 {
+    } else if head == MAX_PLACE {
         Some(Verdict::Done(Outcome::Refused(LOG_FULL)))
     } else {
         own_rule(body).map(|code| Verdict::Done(Outcome::Refused(code)))
@@ -183,7 +178,8 @@ pub fn judged_early(
     body: &Body,
 ) -> Option<Verdict>
     ensures value { result ≡ settled head (early serial last found head body.now Adds) }
-    ensures open { result ≡ None → head ≢ 2 ^ 64 - 2 }
+    ensures open { result ≡ None → head ≢ MAX_PLACE }
+    ensures light { result ≡ None → body_weight body.now ≤ MAX_MESSAGE_SIZE }
 {
     let answer = judged_by_serial(last, serial);
     if answer.is_some() {

@@ -5,7 +5,7 @@ ghost use Rattle.rl_model.specs.Reply.{reply};
 ghost use Rattle.rl_channel.specs.State.{StandsFor, is_spare};
 
 use crate::channel::{Channel, ChannelSetup};
-use rl_ids::{ChannelSerial, MemberKey, NoMemory};
+use rl_ids::{ChannelSerial, MemberKey, NoMemory, ObjectId};
 use rl_turnlock::Machine;
 use rl_types::{ChannelEvent, ChannelReply, Given};
 use std::alloc::Global;
@@ -13,7 +13,7 @@ use std::alloc::Global;
 impl Channel {
     // A session begins.
     fn joined(&self, asked: &Option<Given>) -> ChannelReply
-        ensures value { (past : List events.ChannelEvent) → StandsFor self.now past → result ≡ reply self.now.setup.epoch past (events.ChannelEvent.Join asked.now) }
+        ensures value { (past : List events.ChannelEvent) → StandsFor self.now past → result ≡ reply self.now.setup.epoch self.now.setup.site past (events.ChannelEvent.Join asked.now) }
         ensures stands { (past : List events.ChannelEvent) → StandsFor self.now past → StandsFor self.now (events.ChannelEvent.Join asked.now ∷ past) }
     {
         let joined = self.join(asked);
@@ -35,7 +35,7 @@ impl Channel {
         after: &Option<MemberKey>,
         max: usize,
     ) -> Result<ChannelReply, NoMemory>
-        ensures value { IfOk result (λ answer. (past : List events.ChannelEvent) → StandsFor self.now past → answer ≡ reply self.now.setup.epoch past (events.ChannelEvent.MemberPage after.now max)) }
+        ensures value { IfOk result (λ answer. (past : List events.ChannelEvent) → StandsFor self.now past → answer ≡ reply self.now.setup.epoch self.now.setup.site past (events.ChannelEvent.MemberPage after.now max)) }
         ensures stands { (past : List events.ChannelEvent) → StandsFor self.now past → StandsFor self.now (events.ChannelEvent.MemberPage after.now max ∷ past) }
     {
         let page = self.member_page(alloc, after.as_ref(), max)?;
@@ -46,9 +46,27 @@ impl Channel {
         })
     }
 
+    // A page of the objects.
+    fn objects_paged(
+        &self,
+        alloc: Global,
+        after: &Option<ObjectId>,
+        max: usize,
+    ) -> Result<ChannelReply, NoMemory>
+        ensures value { IfOk result (λ answer. (past : List events.ChannelEvent) → StandsFor self.now past → answer ≡ reply self.now.setup.epoch self.now.setup.site past (events.ChannelEvent.ObjectPage after.now max)) }
+        ensures stands { (past : List events.ChannelEvent) → StandsFor self.now past → StandsFor self.now (events.ChannelEvent.ObjectPage after.now max ∷ past) }
+    {
+        let page = self.object_page(alloc, after.as_ref(), max)?;
+        Ok(ChannelReply::Objects {
+            states: page.states,
+            last: page.last,
+            head: page.head,
+        })
+    }
+
     // What the channel holds. The root is an object.
     fn census(&self) -> ChannelReply
-        ensures value { (past : List events.ChannelEvent) → StandsFor self.now past → result ≡ reply self.now.setup.epoch past events.ChannelEvent.Census }
+        ensures value { (past : List events.ChannelEvent) → StandsFor self.now past → result ≡ reply self.now.setup.epoch self.now.setup.site past events.ChannelEvent.Census }
         ensures stands { (past : List events.ChannelEvent) → StandsFor self.now past → StandsFor self.now (events.ChannelEvent.Census ∷ past) }
     {
         ChannelReply::Census {
@@ -63,7 +81,7 @@ impl Channel {
     // the history with it. After `NoMemory` it stands for what it stood for, and the event is dropped. Joins,
     // ticks and censuses take no memory.
     fn step(&mut self, alloc: Global, event: ChannelEvent) -> Result<ChannelReply, NoMemory>
-        ensures ok { IfOk result (λ answer. (past : List events.ChannelEvent) → StandsFor self.old past → (answer ≡ reply self.old.setup.epoch past event) × StandsFor self.new (event ∷ past)) }
+        ensures ok { IfOk result (λ answer. (past : List events.ChannelEvent) → StandsFor self.old past → (answer ≡ reply self.old.setup.epoch self.old.setup.site past event) × StandsFor self.new (event ∷ past)) }
         ensures err { OnErr result ((past : List events.ChannelEvent) → StandsFor self.old past → StandsFor self.new past) }
         ensures setup { self.new.setup ≡ self.old.setup }
         ensures spare { is_spare event ≡ true → IsOk result }
@@ -83,6 +101,7 @@ impl Channel {
                 Ok(ChannelReply::Read(self.read(alloc, from, max)?))
             }
             ChannelEvent::MemberPage { after, max } => self.paged(alloc, &after, max),
+            ChannelEvent::ObjectPage { after, max } => self.objects_paged(alloc, &after, max),
             ChannelEvent::Gone { conn, now } => {
                 Ok(ChannelReply::Gone(self.gone(alloc, conn, now)?))
             }
@@ -112,7 +131,7 @@ impl Machine for Channel {
 
     ghost any_setup = { record { epoch = 0; site = [] } };
 
-    ghost reply = { λ setup past event. answer setup.epoch (reverse past) event };
+    ghost reply = { λ setup past event. answer setup.epoch setup.site (reverse past) event };
 
     ghost is_spare = { is_spare };
 

@@ -17,13 +17,13 @@ loop-item-init c = λ latest is. (c.in_ok-after.ensures ∙ is, refl)
 pub loop-item-preserved : goal.loop-item-preserved
 loop-item-preserved c =
     λ latest is.
-    let more = after_more latest (take c.loop-item.item-index c.args.items.now) c.item-item.result c.loop-item.after c.take_item.new.members (c.loop-item.invariant latest is) (c.in_ok-take_item.ensures (reverse (take c.loop-item.item-index c.args.items.now) ++ latest)) (rw (← c.count.ensures) c.if-count-gt-MOST_MEMBERS.false) in
+    let more = after_more latest (take c.loop-item.item-index c.args.items.now) c.item-item.result c.loop-item.after c.take_item.new.members (c.loop-item.invariant latest is) (c.in_ok-take_item.ensures (reverse (take c.loop-item.item-index c.args.items.now) ++ latest)) (rw (← c.count.ensures) c.if-count-gt-MAX_MEMBERS.false) in
     subst (λ (l : List PresenceItem). IsAfter latest l (Some c.take_item.new.members)) (sym (next c.args.items.now c.loop-item.item-index c.item-item.result c.item-item.result c.loop-item-test.true c.item-item.is)) more
 
-pub returns-then-count-gt-MOST_MEMBERS : goal.returns-then-count-gt-MOST_MEMBERS
-returns-then-count-gt-MOST_MEMBERS c =
+pub returns-then-count-gt-MAX_MEMBERS : goal.returns-then-count-gt-MAX_MEMBERS
+returns-then-count-gt-MAX_MEMBERS c =
     λ latest is.
-    let many = after_too_many latest (take c.loop-item.item-index c.args.items.now) (drop (c.loop-item.item-index + 1) c.args.items.now) c.item-item.result c.loop-item.after c.take_item.new.members (c.loop-item.invariant latest is) (c.in_ok-take_item.ensures (reverse (take c.loop-item.item-index c.args.items.now) ++ latest)) (rw (← c.count.ensures) c.if-count-gt-MOST_MEMBERS.true) in
+    let many = after_too_many latest (take c.loop-item.item-index c.args.items.now) (drop (c.loop-item.item-index + 1) c.args.items.now) c.item-item.result c.loop-item.after c.take_item.new.members (c.loop-item.invariant latest is) (c.in_ok-take_item.ensures (reverse (take c.loop-item.item-index c.args.items.now) ++ latest)) (rw (← c.count.ensures) c.if-count-gt-MAX_MEMBERS.true) in
     let whole = ap (λ (l : List PresenceItem). l ++ drop (c.loop-item.item-index + 1) c.args.items.now) (sym (next c.args.items.now c.loop-item.item-index c.item-item.result c.item-item.result c.loop-item-test.true c.item-item.is)) ∙ take-append-drop (c.loop-item.item-index + 1) c.args.items.now in
     subst (λ (l : List PresenceItem). has_too_many latest l ≡ true) whole many
 

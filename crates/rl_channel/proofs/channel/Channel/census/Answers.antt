@@ -4,12 +4,13 @@ use Rattle.rl_types.specs.declared.presence.PresenceItem.{PresenceItem}
 use Rattle.rl_model.specs.Parts.{parts_of}
 use Rattle.rl_model.specs.Verdict.{head}
 use Rattle.rl_model.specs.Window.{first}
-use Rattle.rl_channel.specs.State.{ChannelState, StandsFor}
+use Rattle.rl_channel.specs.State.{ChannelState, StandsAt}
 use Rattle.rl_channel.proofs.channel.Channel.census.Goals as goal
 
 pub returns-clause-value : goal.returns-clause-value
 returns-clause-value c = λ past stands.
-    let old = subst (λ (s : ChannelState). StandsFor s past) (sym c.self.view_is) stands in
-    ap (λ (f : ℕ). replies.Census f c.head.result c.count.result 1) (c.first.ensures.value (parts_of past) old.keeps)
-    ∙ ap (λ (h : ℕ). replies.Census (first past) h c.count.result 1) (c.head.ensures.value (parts_of past) old.keeps)
-    ∙ ap (λ (n : ℕ). replies.Census (first past) (head past) n 1) (c.count.ensures ∙ ap (λ (l : List PresenceItem). length l) old.members)
+    let site = c.args.self.now.setup.site in
+    let old = subst (λ (s : ChannelState). StandsAt site s past) (sym c.self.view_is) stands in
+    ap (λ (f : ℕ). replies.Census f c.head.result c.count.result 1) (c.first.ensures.value (parts_of site past) old.keeps)
+    ∙ ap (λ (h : ℕ). replies.Census (first site past) h c.count.result 1) (c.head.ensures.value (parts_of site past) old.keeps)
+    ∙ ap (λ (n : ℕ). replies.Census (first site past) (head site past) n 1) (c.count.ensures ∙ ap (λ (l : List PresenceItem). length l) old.members)

@@ -8,4 +8,4 @@ use Rattle.rl_channel.proofs.channel.Channel.read.Goals as goal
 
 pub returns-clause-value : goal.returns-clause-value
 returns-clause-value c =
-    subst (λ (s : ChannelState). IfOk c.read.result (λ answer. (past : List ChannelEvent) → StandsFor s past → answer ≡ read_reply past c.args.from c.args.max)) c.self.view_is (reads c.read.result _ c.args.from c.args.max c.read.ensures)
+    subst (λ (s : ChannelState). IfOk c.read.result (λ answer. (past : List ChannelEvent) → StandsFor s past → answer ≡ read_reply s.setup.site past c.args.from c.args.max)) c.self.view_is (reads c.read.result _ _ c.args.from c.args.max c.read.ensures)
