@@ -1,5 +1,5 @@
 -- One more operation gets the next serial; a body that is not too heavy has few of them.
-use Rattle.std.proofs.Common.{◌≡◌, ℕ, ◌+◌, ◌*◌, ◌<◌, ◌≤◌, ◌^◌, List, [], ◌∷◌, ◌++◌, length, refl, ap, ◌∙◌, arith}
+use Rattle.std.proofs.Common.{◌≡◌, ℕ, ◌+◌, ◌*◌, ◌<◌, ◌≤◌, ◌^◌, List, [], ◌∷◌, ◌++◌, length, refl, ap, sym, ◌∙◌, arith}
 use Rattle.std.specs.Prelude.{suc, sum_by, min, ◌-◌}
 use Rattle.std.proofs.lemmas.Grind.{common_steps}
 use Rattle.std.proofs.lemmas.List.Sums.{sum_by-cons}
@@ -42,3 +42,7 @@ ops_weigh (op ∷ ops) =
 
 pub few_ops : (ops : List ObjectOp) → body_weight (Objects ops) ≤ MAX_MESSAGE_SIZE → length ops < 2 ^ 16
 few_ops ops light = omega (arith, light, ops_weigh ops)
+
+pub length_push : (ops : List ObjectOp) (op : ObjectOp) → length (ops ++ op ∷ []) ≡ suc (length ops)
+length_push [] op = refl
+length_push (first ∷ ops) op = ap suc (length_push ops op)

@@ -204,8 +204,8 @@ stays (Err e) old new keeps same clocked made = λ past stands. at_site old new 
 pub stays_if : {A E : Type 0} (result : Result A E) (old new : ChannelState)
     → OnErr result ((parts : Parts) → Keeps old.log parts → Keeps new.log parts) → new.members ≡ old.members → OnErr result (new.clock ≡ old.clock) → new.setup ≡ old.setup
     → OnErr result ((past : List ChannelEvent) → StandsFor old past → StandsFor new past)
-stays_if (Ok a) old new keeps same clocked made = tt
-stays_if (Err e) old new keeps same clocked made = stays (Err e) old new keeps same clocked made
+stays_if {A = A} {E = E} (Ok a) old new keeps same clocked made = tt
+stays_if {A = A} {E = E} (Err e) old new keeps same clocked made = stays {A = A} {E = E} (Err e) old new keeps same clocked made
 
 -- a call that refuses answers so
 pub refused : {E : Type 0} (result : Result Verdict E) (old new : ChannelState) (conn serial code : ℕ) (body made : Body) (now stamp place : ℕ)

@@ -94,6 +94,13 @@ impl Channel {
         &self.log
     }
 
+    // The site that the serials of its operations name.
+    fn site(&self) -> SiteCode
+        ensures { result ≡ self.now.setup.site }
+    {
+        self.setup.site
+    }
+
     // The clock after an event.
     pub(crate) fn clock_at(&self, now: Moment) -> Moment
         ensures value { result ≡ max now self.now.clock }
@@ -212,7 +219,8 @@ impl Channel {
         let stamp = self.clock_at(now);
         let id = copied_id(alloc, &body)?;
         let place = Place(self.log.head().0 + 1);
-        let body = filled(alloc, &self.setup.site, place, conn, serial, stamp, body)?;
+        let site = self.site();
+        let body = filled(alloc, site, place, conn, serial, stamp, body)?;
         let members = match after_put(alloc, &self.members, &body)? {
             After::Refuses(code) => return self.refuse(conn, serial, code, now),
             After::Same => None,

@@ -146,11 +146,10 @@ fn filled_presence(
     Ok(made)
 }
 
-fn with_serial(site: &SiteCode, place: Place, index: u16, op: ObjectOp) -> ObjectOp
-    ensures { result ≡ with_serial site.now place index op }
+fn with_serial(site: SiteCode, place: Place, index: u16, op: ObjectOp) -> ObjectOp
+    ensures { result ≡ with_serial site place index op }
 {
     let ObjectOp { op, serial: _ } = op;
-    let site = *site;
     ObjectOp {
         op,
         serial: Some(OpSerial { place, index, site }),
@@ -160,12 +159,12 @@ fn with_serial(site: &SiteCode, place: Place, index: u16, op: ObjectOp) -> Objec
 // The operations, each with the serial of its index.
 fn filled_ops(
     alloc: Global,
-    site: &SiteCode,
+    site: SiteCode,
     place: Place,
     ops: List<ObjectOp>,
 ) -> Result<List<ObjectOp>, NoMemory>
     requires few { length ops < 2 ^ 16 }
-    ensures { IfOk result (λ made. made ≡ filled_ops site.now place 0 ops) }
+    ensures { IfOk result (λ made. made ≡ filled_ops site place 0 ops) }
 {
     let mut made = List::new(alloc);
     for op in ops.into_vec() {
@@ -178,12 +177,12 @@ fn filled_ops(
 #[tactic(auto, using(crate::proofs::Operations::few_ops))]
 fn filled_objects(
     alloc: Global,
-    site: &SiteCode,
+    site: SiteCode,
     place: Place,
     ops: List<ObjectOp>,
 ) -> Result<Body, NoMemory>
     requires light { body_weight (Objects ops) ≤ MAX_MESSAGE_SIZE }
-    ensures { IfOk result (λ made. made ≡ Objects (filled_ops site.now place 0 ops)) }
+    ensures { IfOk result (λ made. made ≡ Objects (filled_ops site place 0 ops)) }
 {
     Ok(Body::Objects(filled_ops(alloc, site, place, ops)?))
 }
@@ -191,7 +190,7 @@ fn filled_objects(
 // The body as an entry of this site, at this place and with this stamp has it.
 pub fn filled(
     alloc: Global,
-    site: &SiteCode,
+    site: SiteCode,
     place: Place,
     conn: ConnNo,
     serial: u64,
@@ -199,7 +198,7 @@ pub fn filled(
     body: Body,
 ) -> Result<Body, NoMemory>
     requires light { body_weight body ≤ MAX_MESSAGE_SIZE }
-    ensures { IfOk result (λ made. made ≡ filled site.now place conn serial now body) }
+    ensures { IfOk result (λ made. made ≡ filled site place conn serial now body) }
 {
     match body {
         Body::Messages(items) => Ok(Body::Messages(filled_items(alloc, conn, serial, items)?)),

@@ -1,17 +1,18 @@
 -- Two entries with one given id stand far apart.
-use Rattle.std.proofs.Common.{◌≡◌, ℕ, zero, suc, ◌+◌, ◌-◌, ◌^◌, ◌<◌, ◌≤◌, Bool, true, false, cond, List, [], ◌∷◌, ◌++◌, length, take, refl, sym, ap, ◌∙◌, subst, arith, length-append}
+use Rattle.std.proofs.Common.{◌≡◌, ℕ, zero, suc, ◌+◌, ◌-◌, ◌<◌, ◌≤◌, Bool, true, false, cond, List, [], ◌∷◌, ◌++◌, length, take, refl, sym, ap, ◌∙◌, subst, arith, length-append}
 use Rattle.std.specs.Prelude.{⊤, Option, Some, None, find, option_map, option_to_list, option_and_then, nat_lt, ◌==◌}
 use Rattle.std.specs.List.{AllByRecursion, cons_option}
 use Rattle.std.proofs.lemmas.Slice.Eq.{bytes_eq-Decides}
 use Rattle.rl_types.specs.declared.channel.ChannelEvent.{ChannelEvent}
-use Rattle.rl_types.specs.declared.channel.ChannelEvent.TheVariants.{Put, Join, Read, MemberPage, Gone, Tick, Census}
+use Rattle.rl_types.specs.declared.channel.ChannelEvent.TheVariants.{Put, Join, Read, MemberPage, ObjectPage, Gone, Tick, Census}
 use Rattle.rl_types.specs.declared.presence.PresenceItem.{PresenceItem}
 use Rattle.rl_types.specs.declared.messages.Entry.{Entry}
 use Rattle.rl_types.specs.declared.channel.Outcome.{Outcome}
 use Rattle.rl_types.specs.declared.messages.Body.{Body}
-use Rattle.rl_model.specs.History.{clock}
+use Rattle.rl_numbers.specs.declared.limits.TheConstants.{MAX_PLACE, MAX_REMEMBERED}
+use Rattle.rl_model.specs.History.{Setting, setting}
 use Rattle.rl_model.specs.Ids.{given_id}
-use Rattle.rl_model.specs.Verdict.{Decision, Added, added, added_by, entries, decided, decisions, is_text, remembered, remembered_of, judged, judged_by_id, judged_by_rules, judged_by_serial, fails_or, limit_rule, told, entry_of_gone, members_on, given_id_of, Judgement, Stale, Again, Known, Fails, Adds, kept, entry_if, gone_entry}
+use Rattle.rl_model.specs.Verdict.{Decision, Added, added, added_by, entries, decided, decisions, is_text, remembered, remembered_of, judged, judged_by_id, judged_by_rules, judged_by_serial, fails_or, limit_rule, object_rule, told, entry_of_gone, members_on, given_id_of, Judgement, Stale, Again, Known, Fails, Adds, kept, entry_if, gone_entry}
 use Rattle.rl_claims.specs.Once.{AreApart, OnceById}
 
 -- PLACES
@@ -77,9 +78,9 @@ none_found : (found : Option Added) → option_map (λ (a : Added). a.place) fou
 none_found None h = refl
 none_found (Some a) h = absurd (cc)
 
-adds_new : (before : List Decision) (conn serial : ℕ) (body : Body) → judged before conn serial body ≡ Adds → (id : List ℕ) → given_id body ≡ Some id → find (has id) (take 8192 (added before)) ≡ None
-adds_new before conn serial body adds id given =
-    let rules = judged_by_rules (length (entries before)) body (fails_or (limit_rule (told before) conn body) Adds) in
+adds_new : (setting : Setting) (before : List Decision) (conn serial : ℕ) (body : Body) → judged setting before conn serial body ≡ Adds → (id : List ℕ) → given_id body ≡ Some id → find (has id) (take MAX_REMEMBERED (added before)) ≡ None
+adds_new setting before conn serial body adds id given =
+    let rules = judged_by_rules (length (entries before)) body (fails_or (limit_rule (told before) conn body) (fails_or (object_rule setting body) Adds)) in
     let new = new_serial serial (kept conn before) (judged_by_id (remembered_of body before) rules) adds in
     let unknown = not_known (remembered_of body before) rules new in
     let F : Option (List ℕ) → Type 0 = λ x. option_and_then (λ (i : List ℕ). remembered i before) x ≡ None in
@@ -91,22 +92,22 @@ abbrev Fine : List Added → Type 0
 Fine more = Counted more × AreApart more
 
 put_step : (judgement : Judgement) (entry : Entry) (id : Option (List ℕ)) (more : List Added) → entry.place ≡ length more + 1
-    → (judgement ≡ Adds → (i : List ℕ) → id ≡ Some i → find (has i) (take 8192 more) ≡ None)
+    → (judgement ≡ Adds → (i : List ℕ) → id ≡ Some i → find (has i) (take MAX_REMEMBERED more) ≡ None)
     → Fine more → Fine (cons_option (added_by id (entry_if judgement entry)) more)
 put_step Adds entry id more place new fine =
     ((place, fine.0), (apart, fine.1))
   where
-    apart : AllByRecursion (λ (early : Added). (i : List ℕ) → id ≡ Some i → early.id ≡ Some i → early.place + 8192 < entry.place) more
+    apart : AllByRecursion (λ (early : Added). (i : List ℕ) → id ≡ Some i → early.id ≡ Some i → early.place + MAX_REMEMBERED < entry.place) more
     apart = by_id id (λ i same. new refl i same)
       where
-        by_id : (given : Option (List ℕ)) → ((i : List ℕ) → given ≡ Some i → find (has i) (take 8192 more) ≡ None)
-            → AllByRecursion (λ (early : Added). (i : List ℕ) → given ≡ Some i → early.id ≡ Some i → early.place + 8192 < entry.place) more
-        by_id None h = each_weaker (λ (early : Added). early.place ≤ length more) (λ (early : Added). (i : List ℕ) → None ≡ Some i → early.id ≡ Some i → early.place + 8192 < entry.place)
+        by_id : (given : Option (List ℕ)) → ((i : List ℕ) → given ≡ Some i → find (has i) (take MAX_REMEMBERED more) ≡ None)
+            → AllByRecursion (λ (early : Added). (i : List ℕ) → given ≡ Some i → early.id ≡ Some i → early.place + MAX_REMEMBERED < entry.place) more
+        by_id None h = each_weaker (λ (early : Added). early.place ≤ length more) (λ (early : Added). (i : List ℕ) → None ≡ Some i → early.id ≡ Some i → early.place + MAX_REMEMBERED < entry.place)
             (λ (early : Added) low i same own. absurd (cc)) more (places_below more (length more) fine.0 (omega arith))
         by_id (Some given) h =
-            each_weaker (λ (early : Added). early.id ≡ Some given → early.place + 8192 ≤ length more) (λ (early : Added). (i : List ℕ) → Some given ≡ Some i → early.id ≡ Some i → early.place + 8192 < entry.place)
+            each_weaker (λ (early : Added). early.id ≡ Some given → early.place + MAX_REMEMBERED ≤ length more) (λ (early : Added). (i : List ℕ) → Some given ≡ Some i → early.id ≡ Some i → early.place + MAX_REMEMBERED < entry.place)
             (λ (early : Added) low i same own. let own' : early.id ≡ Some given = cc in omega (arith, place, low own')) more
-            (far 8192 more given fine.0 (h given refl))
+            (far MAX_REMEMBERED more given fine.0 (h given refl))
 put_step Stale entry id more place new fine = fine
 put_step (Again outcome) entry id more place new fine = fine
 put_step (Known p) entry id more place new fine = fine
@@ -115,7 +116,7 @@ put_step (Fails code) entry id more place new fine = fine
 -- a Gone gives no id
 gone_place : (head now conn : ℕ) (gone : List PresenceItem) (entry : Entry) → entry_of_gone head now conn gone ≡ Some entry → entry.place ≡ head + 1
 gone_place head now conn [] entry some = absurd (cc)
-gone_place head now conn (member ∷ gone) entry some = by_test (head == 2 ^ 64 - 2) some
+gone_place head now conn (member ∷ gone) entry some = by_test (head == MAX_PLACE) some
   where
     by_test : (full : Bool) → cond full None (Some (gone_entry head now conn (member ∷ gone))) ≡ Some entry → entry.place ≡ head + 1
     by_test true h = absurd (cc)
@@ -125,22 +126,23 @@ gone_step : (entry : Option Entry) (more : List Added) → ((e : Entry) → entr
 gone_step None more place fine = fine
 gone_step (Some entry) more place fine = put_step Adds entry None more (place entry refl) (λ adds id same. absurd (cc)) fine
 
-one_more : (now : ℕ) (before : List Decision) (event : ChannelEvent) → Fine (added before) → Fine (added (decided now before event ∷ before))
-one_more now before (Put conn serial body moment) fine =
-    put_step (judged before conn serial body) _ (given_id body) (added before)
-    (ap (λ n. n + 1) (sym (length-added before))) (adds_new before conn serial body) fine
-one_more now before (Join asked) fine = fine
-one_more now before (Read from max_count) fine = fine
-one_more now before (MemberPage after max_count) fine = fine
-one_more now before (Gone conn moment) fine =
-    gone_step (entry_of_gone (length (entries before)) now conn (members_on conn before)) (added before)
-    (λ e some. gone_place (length (entries before)) now conn (members_on conn before) e some ∙ ap (λ n. n + 1) (sym (length-added before))) fine
-one_more now before (Tick moment) fine = fine
-one_more now before Census fine = fine
+one_more : (setting : Setting) (before : List Decision) (event : ChannelEvent) → Fine (added before) → Fine (added (decided setting before event ∷ before))
+one_more setting before (Put conn serial body moment) fine =
+    put_step (judged setting before conn serial body) _ (given_id body) (added before)
+    (ap (λ n. n + 1) (sym (length-added before))) (adds_new setting before conn serial body) fine
+one_more setting before (Join asked) fine = fine
+one_more setting before (Read from max_count) fine = fine
+one_more setting before (MemberPage after max_count) fine = fine
+one_more setting before (ObjectPage after max_count) fine = fine
+one_more setting before (Gone conn moment) fine =
+    gone_step (entry_of_gone (length (entries before)) setting.now conn (members_on conn before)) (added before)
+    (λ e some. gone_place (length (entries before)) setting.now conn (members_on conn before) e some ∙ ap (λ n. n + 1) (sym (length-added before))) fine
+one_more setting before (Tick moment) fine = fine
+one_more setting before Census fine = fine
 
-all_fine : (past : List ChannelEvent) → Fine (added (decisions past))
-all_fine [] = (tt, tt)
-all_fine (event ∷ past) = one_more (clock (event ∷ past)) (decisions past) event (all_fine past)
+all_fine : (site : List ℕ) (past : List ChannelEvent) → Fine (added (decisions site past))
+all_fine site [] = (tt, tt)
+all_fine site (event ∷ past) = one_more (setting site (event ∷ past)) (decisions site past) event (all_fine site past)
 
-pub once_by_id : (past : List ChannelEvent) → OnceById past
-once_by_id past = (all_fine past).1
+pub once_by_id : (site : List ℕ) (past : List ChannelEvent) → OnceById site past
+once_by_id site past = (all_fine site past).1

@@ -12,8 +12,8 @@ use Rattle.rl_types.specs.declared.findings.Cause.TheVariants.{Opened, NotRetain
 use Rattle.rl_types.specs.declared.findings.Segment.{Segment}
 use Rattle.rl_types.specs.declared.script.Line.{Line}
 use Rattle.rl_types.specs.declared.script.Line.TheVariants as lines
-use Rattle.rl_types.specs.declared.script.Command.{Command}
-use Rattle.rl_types.specs.declared.script.Command.TheVariants.{Attach, AttachAt, Publish}
+use Rattle.rl_types.specs.declared.commands.Command.{Command}
+use Rattle.rl_types.specs.declared.commands.Command.TheVariants.{Attach, AttachAt, Publish}
 use Rattle.rl_types.specs.declared.states.ConnState.{ConnState}
 use Rattle.rl_types.specs.declared.states.ConnState.TheVariants as conn
 use Rattle.rl_types.specs.declared.states.ChanState.{ChanState}
@@ -22,10 +22,12 @@ use Rattle.rl_model.specs.declared.plain.Client.{Client}
 use Rattle.rl_model.specs.declared.plain.Sent.{Sent}
 use Rattle.rl_model.specs.declared.plain.Sent.TheVariants.{Asks, Sends}
 use Rattle.rl_model.specs.Verdict.{log, decisions, verdict}
+use Rattle.rl_types.specs.declared.channel.ChannelEvent.TheVariants.{Put}
+use Rattle.rl_model.specs.History.{setting}
 use Rattle.rl_model.specs.Reply.{is_resumed, joined_place}
-use Rattle.rl_model.specs.Records.{the_epoch, segment_from, segments_after, caught_up, got_in, last_segment, held_of}
+use Rattle.rl_model.specs.Records.{the_epoch, the_site, segment_from, segments_after, caught_up, got_in, last_segment, held_of}
 use Rattle.rl_model.specs.Client.{held, connected, opened, dropped, numbered, pending, attach_again, attaching_again, if_connected, attach_in, publish, act, channel_of}
-use Rattle.rl_model.specs.World.{World, the_conn, answer_of, serve, serve_next, finish, serve_all, settle_in, settle, with_client, after_line, final, empty_world, changed, named}
+use Rattle.rl_model.specs.World.{World, the_conn, answer_of, serve, serve_next, finish, serve_all, settle_in, settle, with_client, after_line, final, empty_world, changed, named_by}
 use Rattle.rl_claims.specs.Sound.{IsOpened, OpenedAt, OpensAgainOnlyAfterLeaving}
 use Rattle.rl_claims.proofs.Sound.{each_and}
 
@@ -189,6 +191,7 @@ fine_act : (command : Command) (client : Client) → Fine client → Fine (act c
 fine_act (Attach channel) client fine = fine_attach client.chan None client fine fine.fresh
 fine_act (AttachAt channel serial) client fine = fine_attach client.chan (Some (Ours serial)) client fine fine.fresh
 fine_act (Publish channel items) client fine = fine_publish (Messages items) client fine
+fine_act _ client fine = fine
 
 -- WHAT IS SERVED
 
@@ -204,8 +207,8 @@ fresh_next _ segments serial body sent fresh = tt
 all_served : (sent : List Sent) (world : World) (client : Client) → Serving (Some client) sent → Serving (fold serve_next (with_client world client) sent).client []
 all_served [] world client own = own
 all_served (Asks asked ∷ sent) world client own =
-    let place : ℕ = joined_place the_epoch world.past asked in
-    let resumed : Bool = is_resumed the_epoch world.past asked in
+    let place : ℕ = joined_place the_epoch the_site world.past asked in
+    let resumed : Bool = is_resumed the_epoch the_site world.past asked in
     let after : List Segment = segments_after asked resumed place client.segments in
     all_served sent (serve (with_client world client) client (Asks asked)) (record client { chan = chan.Attached; segments = after }) (
       record {
@@ -216,7 +219,7 @@ all_served (Asks asked ∷ sent) world client own =
       own.1,
     )
 all_served (Sends serial body ∷ sent) world client own =
-    let answers : List Answer = client.answers ++ answer_of serial (verdict (decisions world.past) the_conn serial body) in
+    let answers : List Answer = client.answers ++ answer_of serial (verdict (setting the_site (Put the_conn serial body 0 ∷ world.past)) (decisions the_site world.past) the_conn serial body) in
     all_served sent (serve (with_client world client) client (Sends serial body)) (record client { answers = answers }) (
       record {
         later = own.0.later;
@@ -237,8 +240,8 @@ at_rest (Some client) own = subst (λ (sent : List Sent). IsFine client.chan cli
 finished : (world : World) (client : Option Client) → FineFor world.client → Serving client [] → FineFor (finish world client).client
 finished world None fine own = fine
 finished world (Some client) fine own =
-    subst (λ (sent : List Sent). IsFine client.chan (got_in client.chan (log world.past) client.segments) sent) (sym own.1)
-    (got_fine client.chan (log world.past) client.segments own.0)
+    subst (λ (sent : List Sent). IsFine client.chan (got_in client.chan (log the_site world.past) client.segments) sent) (sym own.1)
+    (got_fine client.chan (log the_site world.past) client.segments own.0)
 
 serves : (world : World) (client : Client) → Fine client → FineFor (serve_all world client).client
 serves world client own =
@@ -270,9 +273,10 @@ one_line world (lines.Open name) fine =
 one_line world (lines.Cut name) fine =
     kept_by (λ (client : Client). record client { conn = dropped client.conn }) (λ client own. own) world world.client fine fine
 one_line world (lines.Act name command) fine =
-    kept_by (act command) (fine_act command) (record world { channel = named world.channel (channel_of command) }) world.client fine fine
+    kept_by (act command) (fine_act command) (record world { channel = named_by world.channel (channel_of command) }) world.client fine fine
 one_line world (lines.Feed channel count text) fine = fine
 one_line world lines.Settle fine = settled world world.client fine fine
+one_line world _ fine = fine
 
 all_lines : (script : List Line) (world : World) → FineFor world.client → FineFor (fold after_line world script).client
 all_lines [] world fine = fine

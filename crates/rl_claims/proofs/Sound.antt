@@ -5,7 +5,7 @@ use Rattle.std.specs.List.{AllByRecursion}
 use Rattle.std.proofs.lemmas.Bool.{leb-true}
 use Rattle.std.proofs.lemmas.List.{map-append, length-map, take_all, take-append-drop, drop-drop}
 use Rattle.rl_types.specs.declared.channel.ChannelEvent.{ChannelEvent}
-use Rattle.rl_types.specs.declared.channel.ChannelEvent.TheVariants.{Put, Join, Read, MemberPage, Gone, Tick, Census}
+use Rattle.rl_types.specs.declared.channel.ChannelEvent.TheVariants.{Put, Join, Read, MemberPage, ObjectPage, Gone, Tick, Census}
 use Rattle.rl_types.specs.declared.messages.Entry.{Entry}
 use Rattle.rl_types.specs.declared.messages.Body.{Body}
 use Rattle.rl_types.specs.declared.messages.Given.{Given}
@@ -15,8 +15,8 @@ use Rattle.rl_types.specs.declared.findings.Cause.TheVariants.{Opened, NotRetain
 use Rattle.rl_types.specs.declared.findings.Segment.{Segment}
 use Rattle.rl_types.specs.declared.script.Line.{Line}
 use Rattle.rl_types.specs.declared.script.Line.TheVariants as lines
-use Rattle.rl_types.specs.declared.script.Command.{Command}
-use Rattle.rl_types.specs.declared.script.Command.TheVariants.{Attach, AttachAt, Publish}
+use Rattle.rl_types.specs.declared.commands.Command.{Command}
+use Rattle.rl_types.specs.declared.commands.Command.TheVariants.{Attach, AttachAt, Publish}
 use Rattle.rl_types.specs.declared.states.ConnState.{ConnState}
 use Rattle.rl_types.specs.declared.states.ConnState.TheVariants as conn
 use Rattle.rl_types.specs.declared.states.ChanState.{ChanState}
@@ -27,9 +27,9 @@ use Rattle.rl_model.specs.declared.plain.Sent.TheVariants.{Asks, Sends}
 use Rattle.rl_model.specs.Verdict.{log, head, run_between}
 use Rattle.rl_model.specs.Window.{first}
 use Rattle.rl_model.specs.Reply.{is_resumed, joined_place, asked_place}
-use Rattle.rl_model.specs.Records.{the_epoch, segment_from, segments_after, segment_end, caught_up, got_of, got_in}
+use Rattle.rl_model.specs.Records.{the_epoch, the_site, segment_from, segments_after, segment_end, caught_up, got_of, got_in}
 use Rattle.rl_model.specs.Client.{connected, opened, dropped, attach_in, act, channel_of}
-use Rattle.rl_model.specs.World.{World, the_conn, feed_conn, serve_for, serve_next, finish, serve_all, settle_in, settle, feed, with_client, one_message, after_line, final, empty_world, changed, named}
+use Rattle.rl_model.specs.World.{World, the_conn, feed_conn, serve_for, serve_next, finish, serve_all, settle_in, settle, feed, with_client, one_message, after_line, final, empty_world, changed, named_by}
 use Rattle.rl_claims.specs.Sound.{SomeOf, Joining, joinings, told, MayBegin, IsSoundSegment, IsRecovered, NoneRecovered, OnlyFirstRecovered, AreInOrder, IsSound, HasSoundRecord, HasSoundRecords}
 use Rattle.rl_claims.proofs.Runs.{run_stays, log_grows}
 
@@ -44,34 +44,35 @@ each_and P (y ∷ ys) x each own = (each.0, each_and P ys x each.1 own)
 -- WHILE THE CHANNEL GOES ON
 
 abbrev pub Began : Segment → Joining → Type 0
-Began segment joining = (told the_epoch joining ≡ segment.start) × MayBegin the_epoch joining segment.cause
+Began segment joining = (told the_epoch the_site joining ≡ segment.start) × MayBegin the_epoch the_site joining segment.cause
 
 pub joins_grow : (event : ChannelEvent) (past : List ChannelEvent) (segment : Segment) → SomeOf (Began segment) (joinings past) → SomeOf (Began segment) (joinings (event ∷ past))
 joins_grow (Join asked) past segment some = inr some
 joins_grow (Put conn serial body now) past segment some = some
 joins_grow (Read from max_count) past segment some = some
 joins_grow (MemberPage after most) past segment some = some
+joins_grow (ObjectPage after most) past segment some = some
 joins_grow (Gone conn now) past segment some = some
 joins_grow (Tick now) past segment some = some
 joins_grow Census past segment some = some
 
 abbrev pub SoundIn : List ChannelEvent → Segment → Type 0
-SoundIn past segment = IsSoundSegment the_epoch past segment
+SoundIn past segment = IsSoundSegment the_epoch the_site past segment
 
 pub segment_grows : (event : ChannelEvent) (past : List ChannelEvent) (segment : Segment) → SoundIn past segment → SoundIn (event ∷ past) segment
 segment_grows event past segment sound =
-    let g = log_grows event past in
+    let g = log_grows the_site event past in
     let upto : ℕ = segment_end segment in
     let order : segment.start ≤ upto = omega arith in
-    let longer : length (log (event ∷ past)) ≡ length (log past) + length g.0 = ap length g.1 ∙ length-append (log past) g.0 in
+    let longer : length (log the_site (event ∷ past)) ≡ length (log the_site past) + length g.0 = ap length g.1 ∙ length-append (log the_site past) g.0 in
     record {
       within = omega (arith, sound.within, longer);
-      run = sound.run ∙ ap (map got_of) (sym (ap (λ l. run_between l segment.start upto) g.1 ∙ run_stays (log past) g.0 segment.start upto order sound.within));
+      run = sound.run ∙ ap (map got_of) (sym (ap (λ l. run_between l segment.start upto) g.1 ∙ run_stays (log the_site past) g.0 segment.start upto order sound.within));
       begun = joins_grow event past segment sound.begun;
     }
 
 abbrev pub Fine : List ChannelEvent → List Segment → Type 0
-Fine past segments = IsSound the_epoch past segments
+Fine past segments = IsSound the_epoch the_site past segments
 
 pub grows : (event : ChannelEvent) (past : List ChannelEvent) (segments : List Segment) → Fine past segments → Fine (event ∷ past) segments
 grows event past segments fine = record {
@@ -88,24 +89,24 @@ low_enough true true false place end low = omega arith
 low_enough true false c place end low = omega arith
 low_enough false b c place end low = omega arith
 
-pub joined_low : (past : List ChannelEvent) (asked : Option Given) → joined_place the_epoch past asked ≤ head past
+pub joined_low : (past : List ChannelEvent) (asked : Option Given) → joined_place the_epoch the_site past asked ≤ head the_site past
 joined_low past None = omega arith
 joined_low past (Some (Other text)) = omega arith
 joined_low past (Some (Ours serial)) =
-    low_enough (serial.epoch == the_epoch) (nat_le (first past - 1) serial.place) (nat_le serial.place (head past)) serial.place (head past)
-    (leb-true serial.place (head past))
+    low_enough (serial.epoch == the_epoch) (nat_le (first the_site past - 1) serial.place) (nat_le serial.place (head the_site past)) serial.place (head the_site past)
+    (leb-true serial.place (head the_site past))
 
 joining_of : List ChannelEvent → Option Given → Joining
 joining_of past asked = record { before = past; asked = asked }
 
-pub new_segment : (past : List ChannelEvent) (asked : Option Given) (cause : Cause) → MayBegin the_epoch (record { before = past; asked = asked }) cause
-    → SoundIn (Join asked ∷ past) (segment_from (joined_place the_epoch past asked) cause)
+pub new_segment : (past : List ChannelEvent) (asked : Option Given) (cause : Cause) → MayBegin the_epoch the_site (record { before = past; asked = asked }) cause
+    → SoundIn (Join asked ∷ past) (segment_from (joined_place the_epoch the_site past asked) cause)
 new_segment past asked cause may =
-    let place : ℕ = joined_place the_epoch past asked in
+    let place : ℕ = joined_place the_epoch the_site past asked in
     let none : place + 0 - place ≡ 0 = omega arith in
     record {
-      within = omega (arith, joined_low past asked, length-append (log past) []);
-      run = sym (ap (λ n. map got_of (take n (drop place (log (Join asked ∷ past))))) none);
+      within = omega (arith, joined_low past asked, length-append (log the_site past) []);
+      run = sym (ap (λ n. map got_of (take n (drop place (log the_site (Join asked ∷ past))))) none);
       begun = inl (refl, may);
     }
 
@@ -122,25 +123,25 @@ order_and [] segment order low = tt
 order_and (s ∷ []) segment order low = (low.0, tt)
 order_and (s ∷ next ∷ segments) segment order low = (order.0, order_and (next ∷ segments) segment order.1 low.1)
 
-ends_low : (past : List ChannelEvent) (place : ℕ) (segments : List Segment) → place ≡ head past → AllByRecursion (SoundIn past) segments → AllByRecursion (λ (earlier : Segment). segment_end earlier ≤ place) segments
+ends_low : (past : List ChannelEvent) (place : ℕ) (segments : List Segment) → place ≡ head the_site past → AllByRecursion (SoundIn past) segments → AllByRecursion (λ (earlier : Segment). segment_end earlier ≤ place) segments
 ends_low past place segments is each =
     each_weaker (SoundIn past) (λ (earlier : Segment). segment_end earlier ≤ place) (λ (earlier : Segment) sound. omega (arith, sound.within, is)) segments each
 
 -- one more segment behind the others, which begins at the head
-begins : (past : List ChannelEvent) (asked : Option Given) (cause : Cause) (segments : List Segment) → MayBegin the_epoch (record { before = past; asked = asked }) cause
-    → (IsRecovered cause → ⊥) → joined_place the_epoch past asked ≡ head past → Fine past segments
-    → Fine (Join asked ∷ past) (segments ++ segment_from (joined_place the_epoch past asked) cause ∷ [])
+begins : (past : List ChannelEvent) (asked : Option Given) (cause : Cause) (segments : List Segment) → MayBegin the_epoch the_site (record { before = past; asked = asked }) cause
+    → (IsRecovered cause → ⊥) → joined_place the_epoch the_site past asked ≡ head the_site past → Fine past segments
+    → Fine (Join asked ∷ past) (segments ++ segment_from (joined_place the_epoch the_site past asked) cause ∷ [])
 begins past asked cause segments may not at fine =
     let old = grows (Join asked) past segments fine in
-    let place : ℕ = joined_place the_epoch past asked in
+    let place : ℕ = joined_place the_epoch the_site past asked in
     record {
       each = each_and (SoundIn (Join asked ∷ past)) segments (segment_from place cause) old.each (new_segment past asked cause may);
       recovered_first = first_and segments (segment_from place cause) old.recovered_first not;
       in_order = order_and segments (segment_from place cause) fine.in_order (ends_low past place segments at fine.each);
     }
 
-pub joined : (past : List ChannelEvent) (asked : Option Given) (resumed : Bool) (segments : List Segment) → is_resumed the_epoch past asked ≡ resumed
-    → Fine past segments → Fine (Join asked ∷ past) (segments_after asked resumed (joined_place the_epoch past asked) segments)
+pub joined : (past : List ChannelEvent) (asked : Option Given) (resumed : Bool) (segments : List Segment) → is_resumed the_epoch the_site past asked ≡ resumed
+    → Fine past segments → Fine (Join asked ∷ past) (segments_after asked resumed (joined_place the_epoch the_site past asked) segments)
 joined past None resumed segments is fine = begins past None Opened segments refl (λ recovered. recovered) refl fine
 joined past (Some asked) true [] is fine = record {
   each = (new_segment past (Some asked) (Recovered asked) (refl, is), tt);
@@ -150,7 +151,7 @@ joined past (Some asked) true [] is fine = record {
 joined past (Some asked) true (segment ∷ segments) is fine = grows (Join (Some asked)) past (segment ∷ segments) fine
 joined past (Some asked) false segments is fine =
     begins past (Some asked) (NotRetained asked) segments (refl, is) (λ recovered. recovered)
-    (ap (λ (b : Bool). cond b (asked_place (Some asked)) (head past)) is) fine
+    (ap (λ (b : Bool). cond b (asked_place (Some asked)) (head the_site past)) is) fine
 
 -- WHERE THE CLIENT GETS WHAT IS THERE
 
@@ -165,21 +166,21 @@ run_rest entries from upto order short =
     ∙ ap (λ tail. take (upto - from) rest ++ tail) (drop-drop (upto - from) from entries ∙ ap (λ n. drop n entries) at)
 
 segment_caught : (past : List ChannelEvent) (segment : Segment) → SoundIn past segment
-    → SoundIn past (record segment { got = segment.got ++ map got_of (drop (segment_end segment) (log past)) })
+    → SoundIn past (record segment { got = segment.got ++ map got_of (drop (segment_end segment) (log the_site past)) })
 segment_caught past segment sound =
     let upto : ℕ = segment_end segment in
-    let more : List (ℕ × Body) = map got_of (drop upto (log past)) in
+    let more : List (ℕ × Body) = map got_of (drop upto (log the_site past)) in
     let order : segment.start ≤ upto = omega arith in
-    let size : length (segment.got ++ more) ≡ length segment.got + (length (log past) - upto) =
-    length-append segment.got more ∙ ap (λ n. length segment.got + n) (length-map (drop upto (log past)) got_of ∙ length-drop upto (log past)) in
-    let end : segment.start + length (segment.got ++ more) ≡ length (log past) = omega (arith, size, sound.within) in
+    let size : length (segment.got ++ more) ≡ length segment.got + (length (log the_site past) - upto) =
+    length-append segment.got more ∙ ap (λ n. length segment.got + n) (length-map (drop upto (log the_site past)) got_of ∙ length-drop upto (log the_site past)) in
+    let end : segment.start + length (segment.got ++ more) ≡ length (log the_site past) = omega (arith, size, sound.within) in
     record {
       within = omega (arith, end);
       run =
           ap (λ got. got ++ more) sound.run
-          ∙ sym (map-append got_of (run_between (log past) segment.start upto) (drop upto (log past)))
-          ∙ ap (map got_of) (sym (run_rest (log past) segment.start upto order sound.within))
-          ∙ ap (λ n. map got_of (run_between (log past) segment.start n)) (sym end);
+          ∙ sym (map-append got_of (run_between (log the_site past) segment.start upto) (drop upto (log the_site past)))
+          ∙ ap (map got_of) (sym (run_rest (log the_site past) segment.start upto order sound.within))
+          ∙ ap (λ n. map got_of (run_between (log the_site past) segment.start n)) (sym end);
       begun = sound.begun;
     }
 
@@ -188,7 +189,7 @@ none_caught entries [] none = tt
 none_caught entries (segment ∷ []) none = (none.0, tt)
 none_caught entries (segment ∷ next ∷ segments) none = (none.0, none_caught entries (next ∷ segments) none.1)
 
-each_caught : (past : List ChannelEvent) (segments : List Segment) → AllByRecursion (SoundIn past) segments → AllByRecursion (SoundIn past) (caught_up (log past) segments)
+each_caught : (past : List ChannelEvent) (segments : List Segment) → AllByRecursion (SoundIn past) segments → AllByRecursion (SoundIn past) (caught_up (log the_site past) segments)
 each_caught past [] each = tt
 each_caught past (segment ∷ []) each = (segment_caught past segment each.0, tt)
 each_caught past (segment ∷ next ∷ segments) each = (each.0, each_caught past (next ∷ segments) each.1)
@@ -204,14 +205,14 @@ caught_first entries [] first = tt
 caught_first entries (segment ∷ []) first = tt
 caught_first entries (segment ∷ next ∷ segments) first = none_caught entries (next ∷ segments) first
 
-caught : (past : List ChannelEvent) (segments : List Segment) → Fine past segments → Fine past (caught_up (log past) segments)
+caught : (past : List ChannelEvent) (segments : List Segment) → Fine past segments → Fine past (caught_up (log the_site past) segments)
 caught past segments fine = record {
   each = each_caught past segments fine.each;
-  recovered_first = caught_first (log past) segments fine.recovered_first;
-  in_order = order_caught (log past) segments fine.in_order;
+  recovered_first = caught_first (log the_site past) segments fine.recovered_first;
+  in_order = order_caught (log the_site past) segments fine.in_order;
 }
 
-caught_in : (state : ChanState) (past : List ChannelEvent) (segments : List Segment) → Fine past segments → Fine past (got_in state (log past) segments)
+caught_in : (state : ChanState) (past : List ChannelEvent) (segments : List Segment) → Fine past segments → Fine past (got_in state (log the_site past) segments)
 caught_in chan.Attached past segments fine = caught past segments fine
 caught_in chan.Initialized past segments fine = fine
 caught_in chan.Attaching past segments fine = fine
@@ -236,7 +237,7 @@ for_grows event past (Some client) fine = grows event past client.segments fine
 served : (world : World) (client : Option Client) (sent : Sent) → FineWorld world → FineFor world.past client → FineWorld (serve_for world client sent)
 served world None sent fine own = fine
 served world (Some client) (Asks asked) fine own =
-    joined world.past asked (is_resumed the_epoch world.past asked) client.segments refl own
+    joined world.past asked (is_resumed the_epoch the_site world.past asked) client.segments refl own
 served world (Some client) (Sends serial body) fine own = grows (Put the_conn serial body 0) world.past client.segments own
 
 all_served : (sent : List Sent) (world : World) → FineWorld world → FineWorld (fold serve_next world sent)
@@ -280,6 +281,7 @@ act_same : (command : Command) (client : Client) → (act command client).segmen
 act_same (Attach channel) client = attach_same client.chan None client
 act_same (AttachAt channel serial) client = attach_same client.chan (Some (Ours serial)) client
 act_same (Publish channel items) client = refl
+act_same _ client = refl
 
 fed : (count : ℕ) (body : Body) (serial : ℕ) (past : List ChannelEvent) (client : Option Client) → FineFor past client → FineFor (feed count body serial past) client
 fed zero body serial past client fine = fine
@@ -298,9 +300,10 @@ one_line world (lines.Open name) fine =
 one_line world (lines.Cut name) fine =
     kept_by (λ (client : Client). record client { conn = dropped client.conn }) (λ client. refl) world world.client fine fine
 one_line world (lines.Act name command) fine =
-    kept_by (act command) (act_same command) (record world { channel = named world.channel (channel_of command) }) world.client fine fine
+    kept_by (act command) (act_same command) (record world { channel = named_by world.channel (channel_of command) }) world.client fine fine
 one_line world (lines.Feed channel count text) fine = fed count (one_message text) world.fed world.past world.client fine
 one_line world lines.Settle fine = settled world world.client fine fine
+one_line world _ fine = fine
 
 all_lines : (script : List Line) (world : World) → FineWorld world → FineWorld (fold after_line world script)
 all_lines [] world fine = fine

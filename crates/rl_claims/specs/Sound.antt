@@ -13,7 +13,7 @@ use Rattle.rl_types.specs.declared.findings.Segment.{Segment}
 use Rattle.rl_model.specs.declared.plain.Client.{Client}
 use Rattle.rl_model.specs.Verdict.{log, head, run_between}
 use Rattle.rl_model.specs.Reply.{is_resumed, joined_place}
-use Rattle.rl_model.specs.Records.{the_epoch, got_of, segment_end}
+use Rattle.rl_model.specs.Records.{the_epoch, the_site, got_of, segment_end}
 use Rattle.rl_model.specs.World.{World, final}
 
 -- some element has P
@@ -35,27 +35,27 @@ joinings (Join asked ∷ past) = record { before = past; asked = asked } ∷ joi
 joinings (_ ∷ past) = joinings past
 
 -- the place that it was told
-abbrev pub told : ℕ → Joining → ℕ
-told epoch joining = joined_place epoch joining.before joining.asked
+abbrev pub told : ℕ → List ℕ → Joining → ℕ
+told epoch site joining = joined_place epoch site joining.before joining.asked
 
 -- a segment may begin with this cause at the answer to this Join: Opened where nothing was asked, NotRetained
 -- where what was asked was not retained then, Recovered where it was
-abbrev pub MayBegin : ℕ → Joining → Cause → Type 0
-MayBegin epoch joining Opened = joining.asked ≡ None
-MayBegin epoch joining (NotRetained asked) =
-    (joining.asked ≡ Some asked) × (is_resumed epoch joining.before (Some asked) ≡ false)
-MayBegin epoch joining (Recovered asked) =
-    (joining.asked ≡ Some asked) × (is_resumed epoch joining.before (Some asked) ≡ true)
-MayBegin epoch joining (Moved held place) = ⊥
-MayBegin epoch joining (Jump held place) = ⊥
+abbrev pub MayBegin : ℕ → List ℕ → Joining → Cause → Type 0
+MayBegin epoch site joining Opened = joining.asked ≡ None
+MayBegin epoch site joining (NotRetained asked) =
+    (joining.asked ≡ Some asked) × (is_resumed epoch site joining.before (Some asked) ≡ false)
+MayBegin epoch site joining (Recovered asked) =
+    (joining.asked ≡ Some asked) × (is_resumed epoch site joining.before (Some asked) ≡ true)
+MayBegin epoch site joining (Moved held place) = ⊥
+MayBegin epoch site joining (Jump held place) = ⊥
 
 -- SEGMENTS
 
 -- a segment is one contiguous run of the log, each entry once, and begins at the place that a Join was told
-pub record IsSoundSegment (epoch : ℕ) (past : List ChannelEvent) (segment : Segment) : Type 0 where
-  pub within : segment_end segment ≤ head past
-  pub run : segment.got ≡ map got_of (run_between (log past) segment.start (segment_end segment))
-  pub begun : SomeOf (λ joining. (told epoch joining ≡ segment.start) × MayBegin epoch joining segment.cause) (joinings past)
+pub record IsSoundSegment (epoch : ℕ) (site : List ℕ) (past : List ChannelEvent) (segment : Segment) : Type 0 where
+  pub within : segment_end segment ≤ head site past
+  pub run : segment.got ≡ map got_of (run_between (log site past) segment.start (segment_end segment))
+  pub begun : SomeOf (λ joining. (told epoch site joining ≡ segment.start) × MayBegin epoch site joining segment.cause) (joinings past)
 
 abbrev pub IsRecovered : Cause → Type 0
 IsRecovered (Recovered asked) = Unit {0}
@@ -75,15 +75,15 @@ AreInOrder [] = ⊤
 AreInOrder (segment ∷ []) = ⊤
 AreInOrder (segment ∷ next ∷ segments) = (segment_end segment ≤ next.start) × AreInOrder (next ∷ segments)
 
-pub record IsSound (epoch : ℕ) (past : List ChannelEvent) (segments : List Segment) : Type 0 where
-  pub each : AllByRecursion (IsSoundSegment epoch past) segments
+pub record IsSound (epoch : ℕ) (site : List ℕ) (past : List ChannelEvent) (segments : List Segment) : Type 0 where
+  pub each : AllByRecursion (IsSoundSegment epoch site past) segments
   pub recovered_first : OnlyFirstRecovered segments
   pub in_order : AreInOrder segments
 
 -- the record of the client is sound
 abbrev pub HasSoundRecord : List ChannelEvent → Option Client → Type 0
 HasSoundRecord past None = ⊤
-HasSoundRecord past (Some client) = IsSound the_epoch past client.segments
+HasSoundRecord past (Some client) = IsSound the_epoch the_site past client.segments
 
 abbrev pub HasSoundRecords : World → Type 0
 HasSoundRecords world = HasSoundRecord world.past world.client

@@ -1,15 +1,15 @@
 //! Laws over the definitions alone. Each is a function that does nothing: its contract is the law.
-ghost use Rattle.std.specs.Prelude.{List};
+ghost use Rattle.std.specs.Prelude.{ℕ, List};
 ghost use Rattle.rl_types.specs.declared.channel.ChannelEvent.{ChannelEvent};
 ghost use Rattle.rl_types.specs.declared.script.Line.{Line};
 ghost use Rattle.rl_model.specs.World.{final};
 ghost use Rattle.rl_claims.specs.Once.{OnceById};
 ghost use Rattle.rl_claims.specs.Sound.{HasSoundRecords, OpensAgainOnlyAfterLeaving};
 
-/// Two entries with one given id stand more than 8,192 places apart, whatever a channel takes.
+/// Two entries with one given id stand farther apart than ids are remembered, whatever a channel takes.
 #[tactic(auto, using(crate::proofs::Once::once_by_id))]
 pub fn once_by_id()
-    ensures { (past : List ChannelEvent) → OnceById past }
+    ensures { (site : List ℕ) (past : List ChannelEvent) → OnceById site past }
 {}
 
 /// Each segment of a record is one contiguous run of the channel's log, begins where the answer to an ATTACH

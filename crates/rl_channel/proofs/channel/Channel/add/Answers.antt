@@ -1,4 +1,4 @@
-use Rattle.std.proofs.Common.{List, refl, sym, ap, subst, ◌∙◌}
+use Rattle.std.proofs.Common.{ℕ, ◌+◌, List, refl, sym, ap, subst, ◌∙◌}
 use Rattle.std.specs.Prelude.{Option, Some, None}
 use Rattle.rl_types.specs.declared.presence.PresenceItem.{PresenceItem}
 use Rattle.rl_channel.specs.declared.changes.After.{After}
@@ -16,9 +16,9 @@ returns-in-Refuses-clause-err c =
     stays_if c.refuse.result c.args.self.now c.refuse.new.self c.refuse.ensures.err c.refuse.ensures.members c.refuse.ensures.same_clock c.refuse.ensures.setup
 
 pub returns-in-Refuses-clause-decided : goal.returns-in-Refuses-clause-decided
-returns-in-Refuses-clause-decided c = refused c.refuse.result c.args.self.now c.refuse.new.self c.args.conn c.args.serial c.in-Refuses.code c.args.body c.in_ok-body.body c.args.now c.clock_at-stamp.result c.place.inside.0
-    (c.in_ok-body.ensures ∙ ap (λ (s : ChannelState). filled s.setup.site c.place.inside.0 c.args.conn c.args.serial c.clock_at-stamp.result c.args.body) c.self.view_is)
-    (λ latest is. subst (λ (a : After). IsAfterPut latest c.in_ok-body.body a) c.in-Refuses.is (c.in_ok-after_put.ensures latest (ap (λ (s : ChannelState). s.members) c.self.view_is ∙ is)))
+returns-in-Refuses-clause-decided c = refused c.refuse.result c.args.self.now c.refuse.new.self c.args.conn c.args.serial c.in-Refuses.code c.args.body c.in_ok-body.body c.args.now c.clock_at-stamp.result (c.place.inside.0 + 1)
+    (c.in_ok-body.ensures ∙ ap (λ (t : List ℕ). filled t (c.place.inside.0 + 1) c.args.conn c.args.serial c.clock_at-stamp.result c.args.body) c.site-site.ensures)
+    (λ latest is. subst (λ (a : After). IsAfterPut latest c.in_ok-body.body a) c.in-Refuses.is (c.in_ok-code.ensures latest (ap (λ (s : ChannelState). s.members) c.self.view_is ∙ is)))
     c.refuse.ensures.answer c.refuse.ensures.ok c.refuse.ensures.members c.refuse.ensures.clock c.refuse.ensures.setup
 
 pub returns-in_err-append-clause-err : goal.returns-in_err-append-clause-err
@@ -37,8 +37,8 @@ returns-clause-decided c = λ past stands passes.
           placed
           c.clock_at-stamp.ensures.value
           c.in_ok-id.ensures
-          (c.in_ok-body.ensures ∙ ap (λ (s : ChannelState). filled s.setup.site c.place.inside.0 c.args.conn c.args.serial c.clock_at-stamp.result c.args.body) c.self.view_is)
-          (λ latest is. subst (λ (a : After). IsAfterPut latest c.in_ok-body.body a) w.in-Same.is (c.in_ok-after_put.ensures latest (ap (λ (s : ChannelState). s.members) c.self.view_is ∙ is)))
+          (c.in_ok-body.ensures ∙ ap (λ (t : List ℕ). filled t (c.place.inside.0 + 1) c.args.conn c.args.serial c.clock_at-stamp.result c.args.body) c.site-site.ensures)
+          (λ latest is. subst (λ (a : After). IsAfterPut latest c.in_ok-body.body a) w.in-Same.is (c.in_ok-code.ensures latest (ap (λ (s : ChannelState). s.members) c.self.view_is ∙ is)))
           tt
           (λ parts keeps. c.in_ok-append.ensures.ok parts keeps)
           (c.in_ok-append.ensures.members ∙ ap (λ (m : Option (List PresenceItem)). changed m c.args.self.now.members) w.members-is)
@@ -48,8 +48,8 @@ returns-clause-decided c = λ past stands passes.
           placed
           c.clock_at-stamp.ensures.value
           c.in_ok-id.ensures
-          (c.in_ok-body.ensures ∙ ap (λ (s : ChannelState). filled s.setup.site c.place.inside.0 c.args.conn c.args.serial c.clock_at-stamp.result c.args.body) c.self.view_is)
-          (λ latest is. subst (λ (a : After). IsAfterPut latest c.in_ok-body.body a) w.in-Changed.is (c.in_ok-after_put.ensures latest (ap (λ (s : ChannelState). s.members) c.self.view_is ∙ is)))
+          (c.in_ok-body.ensures ∙ ap (λ (t : List ℕ). filled t (c.place.inside.0 + 1) c.args.conn c.args.serial c.clock_at-stamp.result c.args.body) c.site-site.ensures)
+          (λ latest is. subst (λ (a : After). IsAfterPut latest c.in_ok-body.body a) w.in-Changed.is (c.in_ok-code.ensures latest (ap (λ (s : ChannelState). s.members) c.self.view_is ∙ is)))
           refl
           (λ parts keeps. c.in_ok-append.ensures.ok parts keeps)
           (c.in_ok-append.ensures.members ∙ ap (λ (m : Option (List PresenceItem)). changed m c.args.self.now.members) w.members-is)
