@@ -8,20 +8,24 @@ use Rattle.std.proofs.lemmas.Grind.{common_steps}
 use Rattle.rl_base.proofs.Digits.{fixed_lengths}
 use Rattle.rl_base.specs.Digits.{fixed_text}
 use Rattle.rl_ids.specs.Forms.{conn_text}
-use Rattle.rl_types.specs.Weight.{option_len, item_weight, presence_weight, body_weight}
+use Rattle.rl_types.specs.Weight.{option_len, item_weight, op_weight, presence_weight, body_weight}
 use Rattle.rl_types.specs.declared.channel.ChannelEvent.{ChannelEvent}
-use Rattle.rl_types.specs.declared.channel.ChannelEvent.TheVariants.{Put, Join, Read, MemberPage, Gone, Tick, Census}
+use Rattle.rl_types.specs.declared.channel.ChannelEvent.TheVariants.{Put, Join, Read, MemberPage, ObjectPage, Gone, Tick, Census}
 use Rattle.rl_types.specs.declared.channel.Outcome.{Outcome}
 use Rattle.rl_types.specs.declared.channel.ReadReply.TheVariants.{Run, NotRetained}
 use Rattle.rl_types.specs.declared.messages.Body.{Body}
-use Rattle.rl_types.specs.declared.messages.Body.TheVariants.{Messages, Presence}
+use Rattle.rl_types.specs.declared.messages.Body.TheVariants.{Messages, Presence, Objects}
 use Rattle.rl_types.specs.declared.messages.Entry.{Entry}
 use Rattle.rl_types.specs.declared.messages.Item.{Item}
 use Rattle.rl_types.specs.declared.presence.PresenceItem.{PresenceItem}
 use Rattle.rl_model.specs.Texts.{made_id}
-use Rattle.rl_model.specs.Ids.{filled, filled_id, filled_items, filled_presence, has_long}
-use Rattle.rl_model.specs.History.{clock}
-use Rattle.rl_model.specs.Verdict.{Judgement, Stale, Again, Known, Fails, Adds, judged, judged_by_serial, judged_by_id, judged_by_rules, own_rule, fails_or, limit_rule, told, kept, remembered_of, decisions, entry_if, entry_of, log, head}
+use Rattle.rl_model.specs.Ids.{filled, filled_id, filled_items, filled_ops, filled_presence, has_long, with_serial}
+use Rattle.rl_numbers.specs.declared.limits.TheConstants.{MAX_MESSAGE_SIZE, MAX_PLACE}
+use Rattle.rl_numbers.specs.declared.codes.TheConstants.{LOG_FULL, TOO_LONG}
+use Rattle.rl_types.specs.declared.objects.ObjectOp.{ObjectOp}
+use Rattle.rl_model.specs.History.{clock, setting}
+use Rattle.rl_model.specs.Records.{the_site}
+use Rattle.rl_model.specs.Verdict.{Judgement, Stale, Again, Known, Fails, Adds, judged, judged_by_serial, judged_by_id, judged_by_rules, own_rule, fails_or, limit_rule, object_rule, told, kept, remembered_of, decisions, entry_if, entry_of, log, head}
 use Rattle.rl_model.specs.Window.{entry_weight, fits, fits_at, first, first_after, first_next, least_place}
 use Rattle.rl_model.specs.Parts.{Parts, parts_of, read_in, retained}
 use Rattle.rl_claims.proofs.Runs.{log_grows}
@@ -76,42 +80,49 @@ few_items (item ∷ items) =
     omega (arith, split, own, few_items items)
 
 presence_filled : (conn serial now index : ℕ) (items : List PresenceItem) → sum_by presence_weight (filled_presence conn serial now index items) ≡ sum_by presence_weight items
-presence_filled conn serial now index [] = refl
-presence_filled conn serial now index (item ∷ items) =
+presence_filled site place conn serial now index [] = refl
+presence_filled site place conn serial now index (item ∷ items) =
     sum_by-cons presence_weight (record item { id = made_id conn serial index; conn = conn_text conn; stamp = now }) (filled_presence conn serial now (suc index) items)
-    ∙ ap (λ n. presence_weight item + n) (presence_filled conn serial now (suc index) items)
+    ∙ ap (λ n. presence_weight item + n) (presence_filled site place conn serial now (suc index) items)
     ∙ sym (sum_by-cons presence_weight item items)
 
+ops_filled : (site : List ℕ) (place index : ℕ) (ops : List ObjectOp) → sum_by op_weight (filled_ops site place index ops) ≡ sum_by op_weight ops
+ops_filled site place index [] = refl
+ops_filled site place index (op ∷ ops) =
+    sum_by-cons op_weight (with_serial site place index op) (filled_ops site place (suc index) ops)
+    ∙ ap (λ n. op_weight op + n) (ops_filled site place (suc index) ops)
+    ∙ sym (sum_by-cons op_weight op ops)
+
 -- a body that is not too long is light with its ids
-light_filled : (conn serial now : ℕ) (body : Body) → serial < 2 ^ 64 → body_weight body ≤ 65536 → body_weight (filled conn serial now body) ≤ 131072
-light_filled conn serial now (Messages items) small light =
-    let low : sum_by item_weight items ≤ 65536 = omega (arith, light) in
+light_filled : (site : List ℕ) (place conn serial now : ℕ) (body : Body) → serial < 2 ^ 64 → body_weight body ≤ MAX_MESSAGE_SIZE → body_weight (filled site place conn serial now body) ≤ 131072
+light_filled site place conn serial now (Messages items) small light =
+    let low : sum_by item_weight items ≤ MAX_MESSAGE_SIZE = omega (arith, light) in
     let few = few_items items in
     let filled = items_filled conn serial 0 items small (omega (arith, low, few)) in
     omega (arith, filled, low)
-light_filled conn serial now (Presence items) small light =
-    let same = presence_filled conn serial now 0 items in
+light_filled site place conn serial now (Presence items) small light =
+    let same = presence_filled site place conn serial now 0 items in
     omega (arith, light, same)
 
 -- a body that adds an entry is not too long
-rules_light : (top : ℕ) (body : Body) (next : Judgement) → judged_by_rules top body next ≡ Adds → body_weight body ≤ 65536
-rules_light top body next adds = by_test (nat_lt 65536 (body_weight body)) refl adds
+rules_light : (top : ℕ) (body : Body) (next : Judgement) → judged_by_rules top body next ≡ Adds → body_weight body ≤ MAX_MESSAGE_SIZE
+rules_light top body next adds = by_test (nat_lt MAX_MESSAGE_SIZE (body_weight body)) refl adds
   where
-    by_test : (heavy : Bool) → nat_lt 65536 (body_weight body) ≡ heavy
-        → (if heavy || has_long body then Fails 104 else if top == 2 ^ 64 - 2 then Fails 116 else fails_or (own_rule body) next) ≡ Adds → body_weight body ≤ 65536
+    by_test : (heavy : Bool) → nat_lt MAX_MESSAGE_SIZE (body_weight body) ≡ heavy
+        → (if heavy || has_long body then Fails TOO_LONG else if top == MAX_PLACE then Fails LOG_FULL else fails_or (own_rule body) next) ≡ Adds → body_weight body ≤ MAX_MESSAGE_SIZE
     by_test true is adds = absurd (cc)
     by_test false is adds = grind (arith, common_steps, is)
 
-id_light : (found : Option ℕ) (top : ℕ) (body : Body) (next : Judgement) → judged_by_id found (judged_by_rules top body next) ≡ Adds → body_weight body ≤ 65536
+id_light : (found : Option ℕ) (top : ℕ) (body : Body) (next : Judgement) → judged_by_id found (judged_by_rules top body next) ≡ Adds → body_weight body ≤ MAX_MESSAGE_SIZE
 id_light None top body next adds = rules_light top body next adds
 id_light (Some place) top body next adds = absurd (cc)
 
 serial_light : (serial : ℕ) (last : Option (ℕ × Outcome)) (found : Option ℕ) (top : ℕ) (body : Body) (next : Judgement)
-    → judged_by_serial serial last (judged_by_id found (judged_by_rules top body next)) ≡ Adds → body_weight body ≤ 65536
+    → judged_by_serial serial last (judged_by_id found (judged_by_rules top body next)) ≡ Adds → body_weight body ≤ MAX_MESSAGE_SIZE
 serial_light serial None found top body next adds = id_light found top body next adds
 serial_light serial (Some last) found top body next adds = by_test (nat_lt serial last.0) (serial == last.0) adds
   where
-    by_test : (below same : Bool) → (if below then Stale else if same then Again last.1 else judged_by_id found (judged_by_rules top body next)) ≡ Adds → body_weight body ≤ 65536
+    by_test : (below same : Bool) → (if below then Stale else if same then Again last.1 else judged_by_id found (judged_by_rules top body next)) ≡ Adds → body_weight body ≤ MAX_MESSAGE_SIZE
     by_test true same adds = absurd (cc)
     by_test false true adds = absurd (cc)
     by_test false false adds = id_light found top body next adds
@@ -162,19 +173,21 @@ next_first (Read start most) now true log before from within = record { from = m
 next_first (Read start most) now false log before from within = record { from = from; within = within }
 next_first (MemberPage after most) now true log before from within = record { from = moved_from fits log before from; within = moved_within fits log before from within }
 next_first (MemberPage after most) now false log before from within = record { from = from; within = within }
+next_first (ObjectPage after most) now true log before from within = record { from = moved_from fits log before from; within = moved_within fits log before from within }
+next_first (ObjectPage after most) now false log before from within = record { from = from; within = within }
 next_first (Gone conn moment) now true log before from within = record { from = moved_from fits log before from; within = moved_within fits log before from within }
 next_first (Gone conn moment) now false log before from within = record { from = from; within = within }
 next_first Census now true log before from within = record { from = moved_from fits log before from; within = moved_within fits log before from within }
 next_first Census now false log before from within = record { from = from; within = within }
 
 -- the window begins within the log, or behind it
-first_within : (past : List ChannelEvent) → IsWithin (first past) (head past)
+first_within : (past : List ChannelEvent) → IsWithin (first the_site past) (head the_site past)
 first_within [] = record { from = omega arith; within = omega arith }
 first_within (event ∷ past) =
     let before = first_within past in
     let low = before.within in
-    let grown : length (log past) ≤ length (log (event ∷ past)) = let grows = log_grows event past in omega (arith, ap length grows.1, length-append (log past) grows.0) in
-    next_first event (clock (event ∷ past)) (nat_lt (head past) (head (event ∷ past))) (log (event ∷ past)) (first past) before.from (omega (arith, low, grown))
+    let grown : length (log the_site past) ≤ length (log the_site (event ∷ past)) = let grows = log_grows the_site event past in omega (arith, ap length grows.1, length-append (log the_site past) grows.0) in
+    next_first event (clock (event ∷ past)) (nat_lt (head the_site past) (head the_site (event ∷ past))) (log the_site (event ∷ past)) (first the_site past) before.from (omega (arith, low, grown))
 
 -- WHAT A PUT ADDED
 
@@ -183,26 +196,26 @@ put_next conn serial body moment now true log before = refl
 put_next conn serial body moment now false log before = refl
 
 -- a put of a body with this serial leaves a window in which what it added stands
-put_stays : (past : List ChannelEvent) (conn serial : ℕ) (body : Body) (now : ℕ) → serial < 2 ^ 64 → first (Put conn serial body now ∷ past) ≤ head past + 1
-put_stays past conn serial body now small = by_judgement (judged (decisions past) conn serial body) refl
+put_stays : (past : List ChannelEvent) (conn serial : ℕ) (body : Body) (now : ℕ) → serial < 2 ^ 64 → first the_site (Put conn serial body now ∷ past) ≤ head the_site past + 1
+put_stays past conn serial body now small = by_judgement (judged (setting the_site (Put conn serial body now ∷ past)) (decisions the_site past) conn serial body) refl
   where
     stamp : ℕ
     stamp = clock (Put conn serial body now ∷ past)
 
     entry : Entry
-    entry = entry_of (length (log past)) stamp conn serial body
+    entry = entry_of (setting the_site (Put conn serial body now ∷ past)) (length (log the_site past)) conn serial body
 
     same : (judgement : Judgement) → option_to_list (entry_if judgement entry) ≡ []
-        → first_next (Put conn serial body now) stamp (nat_lt (head past) (length (log past ++ option_to_list (entry_if judgement entry)))) (log past ++ option_to_list (entry_if judgement entry)) (first past) ≤ head past + 1
+        → first_next (Put conn serial body now) stamp (nat_lt (head the_site past) (length (log the_site past ++ option_to_list (entry_if judgement entry)))) (log the_site past ++ option_to_list (entry_if judgement entry)) (first the_site past) ≤ head the_site past + 1
     same judgement none =
         let before = first_within past in
         let still = before.within in
-        let all : log past ++ option_to_list (entry_if judgement entry) ≡ log past = ap (λ more. log past ++ more) none ∙ append-nil (log past) in
-        subst (λ more. first_next (Put conn serial body now) stamp (nat_lt (head past) (length more)) more (first past) ≤ head past + 1) (sym all)
-        (next_within (Put conn serial body now) stamp (nat_lt (head past) (length (log past))) (log past) (first past) (head past + 1) (put_next conn serial body now stamp (nat_lt (head past) (length (log past))) (log past) (first past)) (moved_within fits (log past) (first past) before.from before.within) still)
+        let all : log the_site past ++ option_to_list (entry_if judgement entry) ≡ log the_site past = ap (λ more. log the_site past ++ more) none ∙ append-nil (log the_site past) in
+        subst (λ more. first_next (Put conn serial body now) stamp (nat_lt (head the_site past) (length more)) more (first the_site past) ≤ head the_site past + 1) (sym all)
+        (next_within (Put conn serial body now) stamp (nat_lt (head the_site past) (length (log the_site past))) (log the_site past) (first the_site past) (head the_site past + 1) (put_next conn serial body now stamp (nat_lt (head the_site past) (length (log the_site past))) (log the_site past) (first the_site past)) (moved_within fits (log the_site past) (first the_site past) before.from before.within) still)
 
-    by_judgement : (judgement : Judgement) → judged (decisions past) conn serial body ≡ judgement
-        → first_next (Put conn serial body now) stamp (nat_lt (head past) (length (log past ++ option_to_list (entry_if judgement entry)))) (log past ++ option_to_list (entry_if judgement entry)) (first past) ≤ head past + 1
+    by_judgement : (judgement : Judgement) → judged (setting the_site (Put conn serial body now ∷ past)) (decisions the_site past) conn serial body ≡ judgement
+        → first_next (Put conn serial body now) stamp (nat_lt (head the_site past) (length (log the_site past ++ option_to_list (entry_if judgement entry)))) (log the_site past ++ option_to_list (entry_if judgement entry)) (first the_site past) ≤ head the_site past + 1
     by_judgement Stale is = same Stale refl
     by_judgement (Again outcome) is = same (Again outcome) refl
     by_judgement (Known place) is = same (Known place) refl
@@ -210,11 +223,11 @@ put_stays past conn serial body now small = by_judgement (judged (decisions past
     by_judgement Adds is =
         let before = first_within past in
         let still = before.within in
-        let light : body_weight body ≤ 65536 = serial_light serial (kept conn (decisions past)) (remembered_of body (decisions past)) (head past) body (fails_or (limit_rule (told (decisions past)) conn body) Adds) is in
-        let fit : fits (entry ∷ []) ≡ true = one_fits entry (light_filled conn serial stamp body small light) in
-        next_within (Put conn serial body now) stamp (nat_lt (head past) (length (log past ++ entry ∷ []))) (log past ++ entry ∷ []) (first past) (head past + 1)
-        (put_next conn serial body now stamp (nat_lt (head past) (length (log past ++ entry ∷ []))) (log past ++ entry ∷ []) (first past))
-        (added_stays (first past) (log past) entry fit before.from before.within) still
+        let light : body_weight body ≤ MAX_MESSAGE_SIZE = serial_light serial (kept conn (decisions the_site past)) (remembered_of body (decisions the_site past)) (head the_site past) body (fails_or (limit_rule (told (decisions the_site past)) conn body) (fails_or (object_rule (setting the_site (Put conn serial body now ∷ past)) body) Adds)) is in
+        let fit : fits (entry ∷ []) ≡ true = one_fits entry (light_filled the_site (length (log the_site past) + 1) conn serial stamp body small light) in
+        next_within (Put conn serial body now) stamp (nat_lt (head the_site past) (length (log the_site past ++ entry ∷ []))) (log the_site past ++ entry ∷ []) (first the_site past) (head the_site past + 1)
+        (put_next conn serial body now stamp (nat_lt (head the_site past) (length (log the_site past ++ entry ∷ []))) (log the_site past ++ entry ∷ []) (first the_site past))
+        (added_stays (first the_site past) (log the_site past) entry fit before.from before.within) still
 
 -- READING
 
@@ -244,12 +257,12 @@ read_all parts from within =
     ∙ ap Run (take_all (length (retained parts)) (retained parts) (omega arith))
 
 -- what is read behind the entries before a put are those that it added
-pub put_follows : (past : List ChannelEvent) (conn serial : ℕ) (body : Body) (now : ℕ) (entries new : List Entry) → serial < 2 ^ 64 → entries ≡ log past
-    → new ≡ followed (read_in (parts_of (Put conn serial body now ∷ past)) (length entries) 1) entries → new ≡ log (Put conn serial body now ∷ past)
+pub put_follows : (past : List ChannelEvent) (conn serial : ℕ) (body : Body) (now : ℕ) (entries new : List Entry) → serial < 2 ^ 64 → entries ≡ log the_site past
+    → new ≡ followed (read_in (parts_of the_site (Put conn serial body now ∷ past)) (length entries) 1) entries → new ≡ log the_site (Put conn serial body now ∷ past)
 put_follows past conn serial body now entries new small is follows =
-    let more : Option Entry = entry_if (judged (decisions past) conn serial body) (entry_of (length (log past)) (clock (Put conn serial body now ∷ past)) conn serial body) in
-    let reads : read_in (parts_of (Put conn serial body now ∷ past)) (head past) 1 ≡ Run (option_to_list more) =
-    read_one (parts_of (Put conn serial body now ∷ past)) (log past) more refl (put_stays past conn serial body now small) in
+    let more : Option Entry = entry_if (judged (setting the_site (Put conn serial body now ∷ past)) (decisions the_site past) conn serial body) (entry_of (setting the_site (Put conn serial body now ∷ past)) (length (log the_site past)) conn serial body) in
+    let reads : read_in (parts_of the_site (Put conn serial body now ∷ past)) (head the_site past) 1 ≡ Run (option_to_list more) =
+    read_one (parts_of the_site (Put conn serial body now ∷ past)) (log the_site past) more refl (put_stays past conn serial body now small) in
     follows
-    ∙ ap (λ all. followed (read_in (parts_of (Put conn serial body now ∷ past)) (length all) 1) all) is
-    ∙ ap (λ reply. followed reply (log past)) reads
+    ∙ ap (λ all. followed (read_in (parts_of the_site (Put conn serial body now ∷ past)) (length all) 1) all) is
+    ∙ ap (λ reply. followed reply (log the_site past)) reads

@@ -7,7 +7,7 @@ use Rattle.rl_ids.specs.Forms.{conn_text}
 use Rattle.rl_types.specs.Weight.{option_len}
 use Rattle.rl_types.specs.declared.messages.Item.{Item}
 use Rattle.rl_types.specs.declared.messages.Body.{Body}
-use Rattle.rl_types.specs.declared.messages.Body.TheVariants.{Messages, Presence}
+use Rattle.rl_types.specs.declared.messages.Body.TheVariants.{Messages, Presence, Objects}
 use Rattle.rl_types.specs.declared.messages.Entry.{Entry}
 use Rattle.rl_types.specs.declared.messages.Given.TheVariants.{Ours, Other}
 use Rattle.rl_types.specs.declared.frames.Frame.{Frame}
@@ -56,11 +56,13 @@ sent_carried channel (Sends serial (Messages (item ∷ []))) name small range =
     (omega (arith, name.fits, one, item_small item small.1)) (omega arith)
 sent_carried channel (Sends serial (Messages (item ∷ next ∷ items))) name small range = absurd small.1
 sent_carried channel (Sends serial (Presence items)) name small range = absurd small.1
+sent_carried channel (Sends serial (Objects ops)) name small range = absurd small.1
 
 pub sent_back : (channel : List ℕ) (sent : Sent) → asked_by (sent_frame channel sent) ≡ Some sent
 sent_back channel (Asks asked) = refl
 sent_back channel (Sends serial (Messages items)) = refl
 sent_back channel (Sends serial (Presence items)) = refl
+sent_back channel (Sends serial (Objects ops)) = refl
 
 -- ENTRIES
 
@@ -76,6 +78,7 @@ entry_carried channel entry name small place stamp = of entry.body small
         (omega (arith, name.fits, one, item_small item own, conn_length entry.conn)) (omega arith)
     of (Messages (item ∷ next ∷ items)) own = absurd own
     of (Presence items) own = absurd own
+    of (Objects ops) own = absurd own
 
 pub entry_back : (channel : List ℕ) (entry : Entry) → entry_in (entry_frame channel entry) ≡ Some (got_of entry)
 entry_back channel entry = of entry.body
@@ -83,6 +86,7 @@ entry_back channel entry = of entry.body
     of : (body : Body) → entry_in (body_frame (entry_head channel entry) body) ≡ Some (entry.place, body)
     of (Messages items) = refl
     of (Presence items) = refl
+    of (Objects ops) = refl
 
 -- ANSWERS
 

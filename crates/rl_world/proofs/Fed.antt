@@ -10,7 +10,7 @@ use Rattle.rl_model.specs.declared.plain.Client.{Client}
 use Rattle.rl_model.specs.declared.plain.Sent.{Sent}
 use Rattle.rl_model.specs.declared.plain.Sent.TheVariants.{Asks, Sends}
 use Rattle.rl_model.specs.Client.{connected, opened, dropped, act, channel_of}
-use Rattle.rl_model.specs.World.{World, empty_world, with_client, serve_for, serve_next, finish, serve_all, settle, settle_in, changed, named, after_line, final}
+use Rattle.rl_model.specs.World.{World, empty_world, with_client, serve_for, serve_next, finish, serve_all, settle, settle_in, changed, named_by, after_line, final}
 use Rattle.rl_model.specs.Script.{fed, fed_by}
 
 served_fed : (client : Option Client) (world : World) (sent : Sent) → (serve_for world client sent).fed ≡ world.fed
@@ -55,9 +55,10 @@ line_fed world (lines.Client name) = omega arith
 line_fed world (lines.Open name) = changed_fed (λ (client : Client). record client { conn = opened client.conn }) world world.client ∙ (omega arith)
 line_fed world (lines.Cut name) = changed_fed (λ (client : Client). record client { conn = dropped client.conn }) world world.client ∙ (omega arith)
 line_fed world (lines.Act name command) =
-    changed_fed (act command) (record world { channel = named world.channel (channel_of command) }) world.client ∙ (omega arith)
+    changed_fed (act command) (record world { channel = named_by world.channel (channel_of command) }) world.client ∙ (omega arith)
 line_fed world (lines.Feed channel count text) = refl
 line_fed world lines.Settle = settle_fed world.client world ∙ (omega arith)
+line_fed world _ = omega arith
 
 lines_fed : (script : List Line) (world : World) → (fold after_line world script).fed ≡ world.fed + sum_by fed_by script
 lines_fed [] world = omega arith

@@ -8,14 +8,14 @@ use Rattle.rl_types.specs.declared.channel.ChannelEvent.{ChannelEvent}
 use Rattle.rl_types.specs.declared.channel.ChannelEvent.TheVariants.{Put, Join}
 use Rattle.rl_types.specs.declared.messages.Entry.{Entry}
 use Rattle.rl_types.specs.declared.messages.Body.{Body}
-use Rattle.rl_types.specs.declared.messages.Body.TheVariants.{Messages, Presence}
+use Rattle.rl_types.specs.declared.messages.Body.TheVariants.{Messages, Presence, Objects}
 use Rattle.rl_types.specs.declared.messages.Given.{Given}
 use Rattle.rl_types.specs.declared.messages.Given.TheVariants.{Ours}
 use Rattle.rl_types.specs.declared.findings.Segment.{Segment}
 use Rattle.rl_types.specs.declared.script.Line.{Line}
 use Rattle.rl_types.specs.declared.script.Line.TheVariants as lines
-use Rattle.rl_types.specs.declared.script.Command.{Command}
-use Rattle.rl_types.specs.declared.script.Command.TheVariants.{Attach, AttachAt, Publish}
+use Rattle.rl_types.specs.declared.commands.Command.{Command}
+use Rattle.rl_types.specs.declared.commands.Command.TheVariants.{Attach, AttachAt, Publish}
 use Rattle.rl_types.specs.declared.states.ConnState.{ConnState}
 use Rattle.rl_types.specs.declared.states.ConnState.TheVariants as conn
 use Rattle.rl_types.specs.declared.states.ChanState.{ChanState}
@@ -24,12 +24,12 @@ use Rattle.rl_model.specs.declared.plain.Client.{Client}
 use Rattle.rl_model.specs.declared.plain.Sent.{Sent}
 use Rattle.rl_model.specs.declared.plain.Sent.TheVariants.{Asks, Sends}
 use Rattle.rl_model.specs.Ids.{filled}
-use Rattle.rl_model.specs.History.{clock}
+use Rattle.rl_model.specs.History.{clock, setting}
 use Rattle.rl_model.specs.Verdict.{Judgement, Stale, Again, Known, Fails, Adds, judged, decisions, entry_if, entry_of, entries, log}
 use Rattle.rl_model.specs.Limits.{IsChannelName, IsSmallBody, IsSmallCommand, IsSmallLine, AreSmallLines}
-use Rattle.rl_model.specs.Records.{held_of, last_segment, got_in}
+use Rattle.rl_model.specs.Records.{the_site, held_of, last_segment, got_in}
 use Rattle.rl_model.specs.Client.{new_client, held, opened, dropped, numbered, pending, attach_again, attaching_again, connected, if_connected, attach_in, act, channel_of}
-use Rattle.rl_model.specs.World.{World, the_conn, feed_conn, empty_world, with_client, serve_for, serve_next, finish, serve_all, settle, settle_in, named, changed, feed, one_message, after_line, final}
+use Rattle.rl_model.specs.World.{World, the_conn, feed_conn, empty_world, with_client, serve_for, serve_next, finish, serve_all, settle, settle_in, named, named_by, changed, feed, one_message, after_line, final}
 use Rattle.rl_model.specs.Script.{fed_by, fed, published}
 use Rattle.rl_claims.proofs.Sound.{each_weaker, each_and}
 use Rattle.rl_world.specs.Travels.{IsOwnSerial, IsSmallSent, IsNamed, IsNamedFor, IsSmallEntry, IsSmallLog, IsSmallClient, HasSmallClient, HasSmallName, IsSmallWorld, CanTravel, AllTravel, published_by, SendsSmall}
@@ -38,15 +38,16 @@ use Rattle.rl_world.proofs.Fed.{line_fed}
 
 -- ENTRIES
 
-small_filled : (conn serial now : ℕ) (body : Body) → serial < 2 ^ 64 → IsSmallBody body → IsSmallBody (filled conn serial now body)
-small_filled conn serial now (Messages []) low small = absurd small
-small_filled conn serial now (Messages (item ∷ [])) low small = of item.id small.id
+small_filled : (site : List ℕ) (place conn serial now : ℕ) (body : Body) → serial < 2 ^ 64 → IsSmallBody body → IsSmallBody (filled site place conn serial now body)
+small_filled site place conn serial now (Messages []) low small = absurd small
+small_filled site place conn serial now (Messages (item ∷ [])) low small = of item.id small.id
   where
-    of : (id : Option (List ℕ)) → option_len id ≤ 64 → IsSmallBody (filled conn serial now (Messages (record item { id = id } ∷ [])))
+    of : (id : Option (List ℕ)) → option_len id ≤ 64 → IsSmallBody (filled site place conn serial now (Messages (record item { id = id } ∷ [])))
     of None short = record { id = made_length conn serial 0 low (omega arith); name = small.name; payload = small.payload; encoding = small.encoding; client = small.client }
     of (Some text) short = record { id = short; name = small.name; payload = small.payload; encoding = small.encoding; client = small.client }
-small_filled conn serial now (Messages (item ∷ next ∷ items)) low small = absurd small
-small_filled conn serial now (Presence items) low small = absurd small
+small_filled site place conn serial now (Messages (item ∷ next ∷ items)) low small = absurd small
+small_filled site place conn serial now (Presence items) low small = absurd small
+small_filled site place conn serial now (Objects ops) low small = absurd small
 
 with_entry : (judgement : Judgement) (entry : Entry) (all : List Entry) → IsSmallEntry entry → AllByRecursion IsSmallEntry all
     → AllByRecursion IsSmallEntry (all ++ option_to_list (entry_if judgement entry))
@@ -59,11 +60,12 @@ with_entry (Fails code) entry all own each = subst (AllByRecursion IsSmallEntry)
 small_put : (conn serial : ℕ) (body : Body) (now : ℕ) (past : List ChannelEvent) → serial < 2 ^ 64 → IsSmallBody body → IsSmallLog past → IsSmallLog (Put conn serial body now ∷ past)
 small_put conn serial body now past low own each =
     let stamp : ℕ = clock (Put conn serial body now ∷ past) in
-    with_entry (judged (decisions past) conn serial body) (entry_of (length (entries (decisions past))) stamp conn serial body) (log past)
-    (small_filled conn serial stamp body low own) each
+    let set = setting the_site (Put conn serial body now ∷ past) in
+    with_entry (judged set (decisions the_site past) conn serial body) (entry_of set (length (entries (decisions the_site past))) conn serial body) (log the_site past)
+    (small_filled the_site (length (entries (decisions the_site past)) + 1) conn serial stamp body low own) each
 
 small_join : (asked : Option Given) (past : List ChannelEvent) → IsSmallLog past → IsSmallLog (Join asked ∷ past)
-small_join asked past each = subst (AllByRecursion IsSmallEntry) (sym (append-nil (log past))) each
+small_join asked past each = subst (AllByRecursion IsSmallEntry) (sym (append-nil (log the_site past))) each
 
 -- WHAT IS SENT
 
@@ -171,7 +173,7 @@ finished_small most world None small own = small
 finished_small most world (Some client) small own = record {
   name = small.name;
   entries = small.entries;
-  client = record { given = own.given; bodies = own.bodies; few = own.few; each = own.each; named = still_named world.channel client (record client { segments = got_in client.chan (log world.past) client.segments }) refl refl refl own.named };
+  client = record { given = own.given; bodies = own.bodies; few = own.few; each = own.each; named = still_named world.channel client (record client { segments = got_in client.chan (log the_site world.past) client.segments }) refl refl refl own.named };
 }
 
 -- what is to be served can travel
@@ -271,27 +273,41 @@ acted_small most (Publish channel items) name client low is small = record {
   few = omega (arith, small.few, length-append client.published (Messages items ∷ []));
   each = with_sent client.sent client.conn (Sends (length client.published) (Messages items)) small.each (omega (arith, small.few, low), is.1);
 }
+acted_small most _ name client low is small = more_small most (most + 0) client (omega arith) small
 
-command_name : (command : Command) → IsSmallCommand command → IsChannelName (channel_of command)
-command_name (Attach channel) is = is
-command_name (AttachAt channel serial) is = is
-command_name (Publish channel items) is = is.0
-
-act_small : (most : ℕ) (command : Command) (name : List ℕ) (world : World) (client : Option Client) → most < 2 ^ 53 → IsSmallCommand command → IsSmallWorld most world → HasSmallClient most world.channel client
-    → IsSmallWorld (most + published_by (lines.Act name command)) (changed (act command) (record world { channel = named world.channel (channel_of command) }) client)
-act_small most command name world None low is small own = record {
-  name = named_well world.channel (channel_of command) small.name (command_name command is);
+-- a command that names this channel
+act_named : (most : ℕ) (command : Command) (name channel : List ℕ) (world : World) (client : Option Client) → most < 2 ^ 53 → IsSmallCommand command → IsChannelName channel → IsSmallWorld most world → HasSmallClient most world.channel client
+    → IsSmallWorld (most + published_by (lines.Act name command)) (changed (act command) (record world { channel = named world.channel channel }) client)
+act_named most command name channel world None low is named small own = record {
+  name = named_well world.channel channel small.name named;
   entries = small.entries;
-  client = more_client most (most + published_by (lines.Act name command)) (named world.channel (channel_of command)) world.client (omega arith) (renamed most world.channel (channel_of command) world.client small.name (command_name command is) small.client);
+  client = more_client most (most + published_by (lines.Act name command)) (named world.channel channel) world.client (omega arith) (renamed most world.channel channel world.client small.name named small.client);
 }
-act_small most command name world (Some client) low is small own =
+act_named most command name channel world (Some client) low is named small own =
     let acted : IsSmallFor (most + published_by (lines.Act name command)) (act command client) =
     acted_small most command name client low is (record { given = own.given; bodies = own.bodies; few = own.few; each = own.each }) in
     record {
-      name = named_well world.channel (channel_of command) small.name (command_name command is);
+      name = named_well world.channel channel small.name named;
       entries = small.entries;
-      client = record { given = acted.given; bodies = acted.bodies; few = acted.few; each = acted.each; named = named_then world.channel (channel_of command) (act command client) small.name (command_name command is) };
+      client = record { given = acted.given; bodies = acted.bodies; few = acted.few; each = acted.each; named = named_then world.channel channel (act command client) small.name named };
     }
+
+-- one that does nothing
+idle_small : (most : ℕ) (change : Client → Client) (world : World) (client : Option Client) → ((client : Client) → change client ≡ client) → IsSmallWorld most world → HasSmallClient most world.channel client
+    → IsSmallWorld (most + 0) (changed change world client)
+idle_small most change world None same small own = more_world most (most + 0) world (omega arith) small
+idle_small most change world (Some client) same small own = record {
+  name = small.name;
+  entries = small.entries;
+  client = subst (λ (c : Client). IsSmallClient (most + 0) world.channel c) (sym (same client)) (more_client most (most + 0) world.channel (Some client) (omega arith) own);
+}
+
+act_small : (most : ℕ) (command : Command) (name : List ℕ) (world : World) (client : Option Client) → most < 2 ^ 53 → IsSmallCommand command → IsSmallWorld most world → HasSmallClient most world.channel client
+    → IsSmallWorld (most + published_by (lines.Act name command)) (changed (act command) (record world { channel = named_by world.channel (channel_of command) }) client)
+act_small most (Attach channel) name world client low is small own = act_named most (Attach channel) name channel world client low is is small own
+act_small most (AttachAt channel serial) name world client low is small own = act_named most (AttachAt channel serial) name channel world client low is is small own
+act_small most (Publish channel items) name world client low is small own = act_named most (Publish channel items) name channel world client low is is.0 small own
+act_small most _ name world client low is small own = idle_small most (λ client. client) world client (λ client. refl) small own
 
 fed_small : (count : ℕ) (body : Body) (serial : ℕ) (past : List ChannelEvent) → serial + count < 2 ^ 64 → IsSmallBody body → IsSmallLog past → IsSmallLog (feed count body serial past)
 fed_small zero body serial past fits own each = each
@@ -323,6 +339,7 @@ line_small most world (lines.Feed channel count text) low fits is small = record
   client = more_client most (most + 0) (named world.channel channel) world.client (omega arith) (renamed most world.channel channel world.client small.name is.0 small.client);
 }
 line_small most world lines.Settle low fits is small = more_world most (most + 0) (settle world world.client) (omega arith) (settle_small most world world.client low small small.client)
+line_small most world _ low fits is small = more_world most (most + 0) world (omega arith) small
 
 pub empty_small : IsSmallWorld 0 empty_world
 empty_small = record { name = tt; entries = tt; client = tt }

@@ -8,6 +8,7 @@ use Rattle.rl_types.specs.declared.messages.Entry.{Entry}
 use Rattle.rl_channel.specs.declared.channel.ChannelSetup.{ChannelSetup}
 use Rattle.rl_types.specs.declared.states.ConnState.{ConnState}
 use Rattle.rl_types.specs.declared.states.ConnState.TheVariants as conn
+use Rattle.rl_model.specs.Records.{the_site}
 use Rattle.rl_model.specs.declared.plain.Client.{Client}
 use Rattle.rl_model.specs.declared.plain.Sent.{Sent}
 use Rattle.rl_model.specs.Client.{connected}
@@ -47,7 +48,7 @@ whose state world is = ap (λ (r : Rest). r.client) is.rest
 pub same_shown : (state old : WorldState) (world : World) → state ≡ old → Shows old world → Shows state world
 same_shown state old world same is = subst (λ (s : WorldState). Shows s world) (sym same) is
 
-same_entries : (state : WorldState) (world : World) → Shows state world → state.entries ≡ log world.past
+same_entries : (state : WorldState) (world : World) → Shows state world → state.entries ≡ log the_site world.past
 same_entries state world is = ap (λ (r : Rest). r.entries) is.rest
 
 -- the client is another
@@ -55,6 +56,7 @@ with_client_shown : (state : WorldState) (world : World) (client : Client) → S
 with_client_shown state world client is = record {
   machine = is.machine;
   epoch = is.epoch;
+  site = is.site;
   rest = ap (λ (r : Rest). record r { client = Some client }) is.rest;
 }
 
@@ -67,16 +69,18 @@ named_shown : (old new : WorldState) (world : World) (channel : List ℕ) → ne
 named_shown old new world channel is shows = subst (λ (s : WorldState). Shows s (record world { channel = named world.channel channel })) (sym is) (record {
   machine = shows.machine;
   epoch = shows.epoch;
+  site = shows.site;
   rest = ap (λ (r : Rest). record r { channel = named r.channel channel }) shows.rest;
 })
 
 -- the channel took one event more, and nothing else changed
 took_one : (world : World) (event : ChannelEvent) (state : WorldState) (machine : ChannelState) (entries : List Entry) → Shows state world
-    → channels.StandsFor machine (event ∷ world.past) → machine.setup ≡ state.machine.setup → entries ≡ log (event ∷ world.past)
+    → channels.StandsAt the_site machine (event ∷ world.past) → machine.setup ≡ state.machine.setup → entries ≡ log the_site (event ∷ world.past)
     → Shows (record state { machine = machine; entries = entries; begun = true }) (record world { past = event ∷ world.past })
 took_one world event state machine entries is stands setup follow = record {
   machine = stands;
   epoch = ap (λ (s : ChannelSetup). s.epoch) setup ∙ is.epoch;
+  site = ap (λ (s : ChannelSetup). s.site) setup ∙ is.site;
   rest =
       ap (λ (r : Rest). record r { entries = entries; begun = true }) is.rest
       ∙ ap (λ all. record (shown world) { entries = all; begun = true }) follow;
@@ -84,21 +88,21 @@ took_one world event state machine entries is stands setup follow = record {
 
 -- a message that no client sent was put
 pub fed_one : (world : World) (state old : WorldState) (machine : ChannelState) (entries : List Entry) (serial : ℕ) (body given : Body) → state ≡ old → Shows old world → body ≡ given
-    → ((past : List ChannelEvent) → channels.StandsFor state.machine past → state.entries ≡ log past → channels.StandsFor machine (Put feed_conn serial body 0 ∷ past) × (entries ≡ log (Put feed_conn serial body 0 ∷ past)))
+    → ((past : List ChannelEvent) → state.machine.setup.site ≡ the_site → channels.StandsAt the_site state.machine past → state.entries ≡ log the_site past → channels.StandsAt the_site machine (Put feed_conn serial body 0 ∷ past) × (entries ≡ log the_site (Put feed_conn serial body 0 ∷ past)))
     → machine.setup ≡ state.machine.setup
     → Shows (record state { machine = machine; entries = entries; begun = true }) (record world { past = Put feed_conn serial given 0 ∷ world.past })
 fed_one world state old machine entries serial body given same is which_body puts setup =
     let before = same_shown state old world same is in
-    let put = puts world.past before.machine (same_entries state world before) in
+    let put = puts world.past before.site before.machine (same_entries state world before) in
     subst (λ (b : Body). Shows (record state { machine = machine; entries = entries; begun = true }) (record world { past = Put feed_conn serial b 0 ∷ world.past })) which_body
     (took_one world (Put feed_conn serial body 0) state machine entries before put.0 setup put.1)
 
 -- one more was fed behind the others
 pub fed_more : (state : WorldState) (world : World) (count first serial : ℕ) (body : Body) → serial ≡ first + count
-    → Shows state (record world { past = Put feed_conn serial body 0 ∷ feed count body first world.past })
-    → Shows state (record world { past = feed (count + 1) body first world.past })
+    → Shows state (record world { past = Put feed_conn serial body 0 ∷ feed count body first the_site world.past })
+    → Shows state (record world { past = feed (count + 1) body first the_site world.past })
 fed_more state world count first serial body same is =
-    subst (λ past. Shows state (record world { past = past })) (ap (λ n. Put feed_conn n body 0 ∷ feed count body first world.past) same ∙ sym (feed_more count body first world.past)) is
+    subst (λ past. Shows state (record world { past = past })) (ap (λ n. Put feed_conn n body 0 ∷ feed count body first the_site world.past) same ∙ sym (feed_more count body first the_site world.past)) is
 
 -- the four steps of a settle: the client is made ready, what it has sent is taken and served, and it gets what is
 -- there, where all of it can travel

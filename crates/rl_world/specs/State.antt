@@ -4,7 +4,7 @@ use Rattle.rl_types.specs.declared.channel.ChannelEvent.{ChannelEvent}
 use Rattle.rl_types.specs.declared.messages.Entry.{Entry}
 use Rattle.rl_types.specs.declared.script.Line.{Line}
 use Rattle.rl_model.specs.declared.plain.Client.{Client}
-use Rattle.rl_model.specs.Records.{the_epoch}
+use Rattle.rl_model.specs.Records.{the_epoch, the_site}
 use Rattle.rl_model.specs.Verdict.{log}
 use Rattle.rl_model.specs.World.{World, final}
 use Rattle.rl_model.specs.Script.{fed_by}
@@ -47,7 +47,7 @@ is_begun (event ∷ past) = true
 abbrev pub shown : World → Rest
 shown world =
     record {
-      entries = log world.past;
+      entries = log the_site world.past;
       begun = is_begun world.past;
       fed = world.fed;
       channel = world.channel;
@@ -56,8 +56,9 @@ shown world =
 
 -- it is what is kept of a world: the channel machine stands for the channel's history
 pub record Shows (state : WorldState) (world : World) : Type 0 where
-  pub machine : channels.StandsFor state.machine world.past
+  pub machine : channels.StandsAt the_site state.machine world.past
   pub epoch : state.machine.setup.epoch ≡ the_epoch
+  pub site : state.machine.setup.site ≡ the_site
   pub rest : kept state ≡ shown world
 
 -- it is what is kept of the world that these lines make

@@ -6,6 +6,7 @@ use Rattle.rl_types.specs.declared.messages.Entry.{Entry}
 use Rattle.rl_types.specs.declared.messages.Given.{Given}
 use Rattle.rl_types.specs.declared.messages.Given.TheVariants.{Ours, Other}
 use Rattle.rl_types.specs.declared.states.ChanState.TheVariants.{Initialized}
+use Rattle.rl_model.specs.Records.{the_site}
 use Rattle.rl_model.specs.declared.plain.Client.{Client}
 use Rattle.rl_model.specs.declared.plain.Sent.{Sent}
 use Rattle.rl_model.specs.declared.plain.Sent.TheVariants.{Asks, Sends}
@@ -42,7 +43,7 @@ abbrev pub AreSmallEntries : List Entry → Type 0
 AreSmallEntries entries = AllByRecursion IsSmallEntry entries
 
 abbrev pub IsSmallLog : List ChannelEvent → Type 0
-IsSmallLog past = AreSmallEntries (log past)
+IsSmallLog past = AreSmallEntries (log the_site past)
 
 -- a client that has published at most so many messages
 pub record IsSmallClient (most : ℕ) (channel : Option (List ℕ)) (client : Client) : Type 0 where

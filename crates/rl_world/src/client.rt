@@ -1,4 +1,5 @@
 ghost use Rattle.std.specs.Prelude.{◌≡◌, ◌++◌, drop, OnOk, IfOk};
+ghost use Rattle.std.specs.Option.{option_copied};
 ghost use Rattle.rl_model.specs.Client.{new_client, opened, dropped, connected, attach_in, publish, numbered, channel_of};
 ghost use Rattle.rl_world.specs.Ends.{EndBy};
 ghost use Rattle.rl_world.specs.Ready.{IsReady};
@@ -129,13 +130,14 @@ pub fn make_ready(alloc: Global, client: &mut Client, head: u64) -> Result<bool,
     }
 }
 
-/// The channel that a command names.
-pub fn channel_of(command: &Command) -> &Text
-    ensures { result.now ≡ channel_of command.now }
+/// The channel that a command names, of those that scripts have yet.
+pub fn channel_of(command: &Command) -> Option<&Text>
+    ensures { option_copied result ≡ channel_of command.now }
 {
     match command {
-        Command::Attach(channel) => channel,
-        Command::AttachAt(channel, _) => channel,
-        Command::Publish(channel, _) => channel,
+        Command::Attach(channel) => Some(channel),
+        Command::AttachAt(channel, _) => Some(channel),
+        Command::Publish(channel, _) => Some(channel),
+        _ => None,
     }
 }

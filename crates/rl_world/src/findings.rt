@@ -2,6 +2,7 @@ ghost use Rattle.std.specs.Prelude.{◌≡◌, ◌-◌, Bool, List, Option, IfOk
 ghost use Rattle.std.specs.Option.{option_to_list};
 ghost use Rattle.rl_model.specs.Findings.{client_shown, clients_shown, conn_shown, held_serial, is_attached, view_of, views_in};
 ghost use Rattle.rl_model.specs.Client.{pending};
+ghost use Rattle.rl_model.specs.Objects.{objects_kept};
 ghost use Rattle.rl_model.specs.Parts.{Parts, retained};
 ghost use Rattle.rl_chanlog.specs.Keeps.{Keeps};
 ghost use Rattle.rl_world.specs.Ends.{EndBy, EndsBy};
@@ -10,10 +11,11 @@ ghost use Rattle.rl_world.specs.Kept.{channel_kept, channels_kept};
 use crate::records::held;
 use crate::serving::CLIENT;
 use rl_chanlog::ChanLog;
-use rl_ids::{ChannelSerial, Copied, List, NoMemory, Place, Text, write_conn};
+use rl_ids::{ChannelSerial, Copied, List, NoMemory, ObjectId, Place, Text, write_conn};
 use rl_model::Client;
 use rl_types::{
-    ChanState, ChannelFindings, ChannelView, ClientFindings, Entry, Given, ReadReply, Record,
+    ChanState, ChannelFindings, ChannelView, ClientFindings, Entry, Given, ObjectBody, ObjectState,
+    ReadReply, Record,
 };
 use std::alloc::Global;
 
@@ -56,6 +58,21 @@ fn is_attached(state: ChanState) -> bool
     state == ChanState::Attached
 }
 
+// The objects that the client knows: the root, since no script makes one yet.
+fn objects_of(alloc: Global) -> Result<List<ObjectState>, NoMemory>
+    ensures { IfOk result (λ objects. objects ≡ objects_kept) }
+{
+    let mut objects = List::new(alloc);
+    objects.push(ObjectState {
+        id: ObjectId::Root,
+        sites: List::new(alloc),
+        tombstone: false,
+        created: true,
+        body: ObjectBody::Map(List::new(alloc)),
+    })?;
+    Ok(objects)
+}
+
 // What the client shows of the channel, where no segment ends past the head.
 fn view_of(alloc: Global, name: &Text, client: &Client, head: u64) -> Result<ChannelView, NoMemory>
     ensures { IfOk result (λ view. EndBy head client.now.segments → view ≡ view_of name.now client.now) }
@@ -72,6 +89,7 @@ fn view_of(alloc: Global, name: &Text, client: &Client, head: u64) -> Result<Cha
         members_whole: whole,
         members: List::new(alloc),
         objects_whole: whole,
+        objects: objects_of(alloc)?,
     })
 }
 

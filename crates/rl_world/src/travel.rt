@@ -1,25 +1,29 @@
 //! What travels between the client and the service: frames, as their JSON bytes.
 ghost use Rattle.std.specs.Prelude.{◌≡◌, ◌≤◌, ◌<◌, ◌^◌, length, true, Some, option_and_then, IfOk, IfSome};
 ghost use Rattle.rl_ids.specs.Forms.{IsSerial};
-ghost use Rattle.rl_wire.specs.Frames.{max_length};
+ghost use Rattle.rl_wire.specs.Frames.{frame_at, max_length};
 ghost use Rattle.rl_wire.specs.Texts.{frame_text};
 ghost use Rattle.rl_wire.specs.Sendable.{IsSendable};
 ghost use Rattle.rl_model.specs.Limits.{IsChannelName};
 ghost use Rattle.rl_model.specs.Records.{got_of};
-ghost use Rattle.rl_world.specs.Frames.{publish_head, body_frame, sent_frame, asked_by, entry_head, entry_frame, place_in, entry_in, attach_code, flags_of, attached_frame, told_by, answer_frame, answered_by, connected_frame, is_connected, IsGivenInRange, IsSentInRange};
+ghost use Rattle.rl_world.specs.Frames.{arrival, publish_head, body_frame, sent_frame, asked_by, entry_head, entry_frame, place_in, entry_in, attach_code, flags_of, attached_frame, told_by, answer_frame, answered_by, connected_frame, is_connected, IsGivenInRange, IsSentInRange};
 ghost use Rattle.rl_world.specs.Travels.{IsSmallSent, IsSmallEntry};
 
 use crate::records::EPOCH;
 use crate::serving::CLIENT;
 use rl_ids::{ChannelSerial, Copied, NoMemory, Place, Text, write_conn};
 use rl_model::Sent;
+use rl_numbers::codes::NOT_RETAINED;
+use rl_numbers::flags::{HAS_PRESENCE, RESUMED};
+use rl_numbers::limits::{CONNECTION_STATE_TTL, MAX_IDLE_INTERVAL, MAX_MESSAGE_SIZE};
 use rl_types::{Body, Entry, Frame, Given, Head, WireFault};
 use rl_wire::{read_frame, write_frame};
 use std::alloc::Global;
 
 // What arrives of a frame that is sent: the frame that its bytes are, if they are one.
 fn carried(alloc: Global, frame: &Frame) -> Result<Option<Frame>, NoMemory>
-    ensures { IfOk result (λ arrived. IsSendable frame.now → length (frame_text frame.now) ≤ max_length → arrived ≡ Some frame.now) }
+    ensures read { IfOk result (λ arrived. arrived ≡ arrival (frame_at (frame_text frame.now))) }
+    ensures whole { IfOk result (λ arrived. IsSendable frame.now → length (frame_text frame.now) ≤ max_length → arrived ≡ Some frame.now) }
 {
     let bytes = write_frame(alloc, frame)?;
     match read_frame(alloc, bytes.as_slice()) {
@@ -58,6 +62,7 @@ fn body_frame(head: Head, body: Body) -> Frame
     match body {
         Body::Messages(items) => Frame::Message { head, items },
         Body::Presence(items) => Frame::Presence { head, items },
+        Body::Objects(ops) => Frame::Object { head, ops },
     }
 }
 
@@ -103,6 +108,10 @@ fn asked_by(frame: Frame) -> Option<Sent>
         },
         Frame::Presence { head, items } => match head.msg {
             Some(serial) => Some(Sent::Sends(serial, Body::Presence(items))),
+            None => None,
+        },
+        Frame::Object { head, ops } => match head.msg {
+            Some(serial) => Some(Sent::Sends(serial, Body::Objects(ops))),
             None => None,
         },
         _ => None,
@@ -178,6 +187,10 @@ fn entry_in(frame: Frame) -> Option<(Place, Body)>
             Some(place) => Some((place, Body::Presence(items))),
             None => None,
         },
+        Frame::Object { head, ops } => match place_of(&head) {
+            Some(place) => Some((place, Body::Objects(ops))),
+            None => None,
+        },
         _ => None,
     }
 }
@@ -207,14 +220,18 @@ pub fn entry_arrives(
 fn attach_code(given: bool, resumed: bool) -> Option<u32>
     ensures { result ≡ attach_code given resumed }
 {
-    if given && !resumed { Some(101) } else { None }
+    if given && !resumed {
+        Some(NOT_RETAINED)
+    } else {
+        None
+    }
 }
 
 fn flags_of(resumed: bool, presence: bool) -> u64
     ensures { result ≡ flags_of resumed presence }
 {
-    let first = if resumed { 4 } else { 0 };
-    let second = if presence { 1 } else { 0 };
+    let first = if resumed { RESUMED } else { 0 };
+    let second = if presence { HAS_PRESENCE } else { 0 };
     first + second
 }
 
@@ -246,7 +263,7 @@ fn told_by(frame: &Frame) -> Option<(Place, bool)>
     ensures { result ≡ told_by frame.now }
 {
     match frame {
-        Frame::Attached { serial, flags, .. } => Some((serial.place, *flags / 4 % 2 == 1)),
+        Frame::Attached { serial, flags, .. } => Some((serial.place, *flags / RESUMED % 2 == 1)),
         _ => None,
     }
 }
@@ -337,9 +354,9 @@ fn connected_frame(alloc: Global) -> Result<Frame, NoMemory>
     Ok(Frame::Connected {
         conn: write_conn(alloc, CLIENT)?,
         key,
-        ttl: 120_000,
-        idle: 15_000,
-        size: 65_536,
+        ttl: CONNECTION_STATE_TTL,
+        idle: MAX_IDLE_INTERVAL,
+        size: MAX_MESSAGE_SIZE,
         code: None,
     })
 }

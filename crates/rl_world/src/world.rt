@@ -1,11 +1,12 @@
 ghost use Rattle.std.specs.Prelude.{◌≡◌, ◌+◌, ◌<◌, ◌^◌, ℕ, ◌∷◌, ◌++◌, [], List, Some, fold, OnOk, IfOk};
+ghost use Rattle.std.specs.Option.{option_copied};
 ghost use Rattle.rl_types.specs.declared.channel.ChannelEvent.{ChannelEvent};
 ghost use Rattle.rl_types.specs.declared.script.Line.{Line};
 ghost use Rattle.rl_model.specs.World as model;
 ghost use Rattle.rl_model.specs.Findings.{findings};
 ghost use Rattle.rl_model.specs.Script.{fed, published};
 ghost use Rattle.rl_model.specs.Limits.{AreSmallLines};
-ghost use Rattle.rl_model.specs.Records.{the_epoch};
+ghost use Rattle.rl_model.specs.Records.{the_epoch, the_site};
 ghost use Rattle.rl_model.specs.Reply.{is_resumed, joined_place};
 ghost use Rattle.rl_model.specs.declared.plain.Sent.TheVariants.{Asks, Sends};
 ghost use Rattle.rl_channel.specs.State as channels;
@@ -52,7 +53,9 @@ impl Model for World {
 }
 
 // The site at which every script runs.
-fn site() -> SiteCode {
+fn site() -> SiteCode
+    ensures { result ≡ the_site }
+{
     read_site("s1").unwrap()
 }
 
@@ -92,8 +95,8 @@ impl World {
         asked: &Option<Given>,
     ) -> Result<Option<(Place, bool)>, NoMemory>
         ensures { IfOk result (λ told. (world : model.World) → Shows self.now world → IsNamed world.channel →
-            (told ≡ Some (joined_place the_epoch world.past asked.now, is_resumed the_epoch world.past asked.now))
-            × channels.StandsFor self.now.machine (ChannelEvent.Join asked.now ∷ world.past)) }
+            (told ≡ Some (joined_place the_epoch the_site world.past asked.now, is_resumed the_epoch the_site world.past asked.now))
+            × channels.StandsAt the_site self.now.machine (ChannelEvent.Join asked.now ∷ world.past)) }
     {
         let Some(name) = &self.channel else {
             return Ok(None);
@@ -205,6 +208,16 @@ impl World {
         Ok(())
     }
 
+    // The channel is named, where this names one.
+    fn name_by(&mut self, alloc: Global, channel: Option<&Text>) -> Result<(), NoMemory>
+        ensures { OnOk result (self.new ≡ record self.old { channel = model.named_by self.old.channel (option_copied channel.entry) }) }
+    {
+        match channel {
+            Some(channel) => self.name_channel(alloc, channel),
+            None => Ok(()),
+        }
+    }
+
     // A message that no client sent is put, with this serial.
     fn feed_one(&mut self, alloc: Global, serial: u64, text: &Text) -> Result<(), NoMemory>
         ensures { OnOk result ((world : model.World) → Shows self.old world →
@@ -278,6 +291,7 @@ impl World {
             Command::Publish(_, items) => {
                 publish(alloc, client, Body::Messages(items.copy(alloc)?))
             }
+            _ => Ok(()),
         }
     }
 
@@ -289,7 +303,7 @@ impl World {
             Line::Open(_) => self.open(),
             Line::Cut(_) => self.cut(),
             Line::Act(_, command) => {
-                self.name_channel(alloc, channel_of(command))?;
+                self.name_by(alloc, channel_of(command))?;
                 self.act(alloc, command)?;
             }
             Line::Feed(channel, count, text) => {
@@ -297,6 +311,7 @@ impl World {
                 self.feed(alloc, *count, text)?;
             }
             Line::Settle => self.settle(alloc)?,
+            _ => {}
         }
         Ok(())
     }
