@@ -20,7 +20,7 @@ use Rattle.rl_ids.specs.declared.objects.ObjectId.TheVariants.{Root, Made}
 use Rattle.rl_ids.specs.declared.serials.OpSerial.{OpSerial}
 use Rattle.rl_ids.specs.Forms.{is_site_code}
 use Rattle.rl_ids.specs.Objects.{Lacks, before_at, behind_at, kind_text, object_id_text, is_hash_byte, is_hash, is_object_id, IsObjectId, made_spelled, object_id_spelled, object_id_of, ObjectIdTextsDiffer, op_serial_text, is_op_serial, IsOpSerial, op_serial_spelled, op_serial_of, OpSerialTextsDiffer}
-use Rattle.rl_ids.proofs.Marks.{and_left, and_right, lacks, before_is, behind_is}
+use Rattle.rl_ids.proofs.Cuts.{and_left, and_right, lacks, before_is, behind_is}
 use Rattle.rl_ids.proofs.SerialTexts.{exactly}
 
 -- a candidate that is in its form and whose text is the text

@@ -3,7 +3,7 @@ ghost use Rattle.rl_ids.specs.Objects.{Lacks};
 
 /// What stands before the first of an ASCII mark in a text, and what behind it: `None` exactly where the
 /// text has no such mark.
-#[tactic(auto, using(crate::proofs::Marks::cut_found, crate::proofs::Marks::cut_every))]
+#[tactic(auto, using(crate::proofs::Cuts::cut_found, crate::proofs::Cuts::cut_every))]
 pub(crate) fn cut_at(text: &str, mark: char) -> Option<(&str, &str)>
     requires { mark < 128 }
     ensures found { IfSome result (λ p. text.now ≡ p.0.now ++ mark ∷ p.1.now) }
