@@ -1,6 +1,8 @@
 -- Object ids and operation serials are read back from their texts, and a text that reads is their text.
 use Rattle.std.proofs.Common.{◌≡◌, ℕ, zero, suc, ◌+◌, ◌<◌, ◌≤◌, ◌^◌, Bool, true, false, Option, Some, None, List, [], ◌∷◌, ◌++◌, length, take, drop, refl, sym, ◌∙◌, ap, ap₂, subst, arith, append_assoc}
-use Rattle.std.specs.Prelude.{◌&&◌, ◌==◌, if◌then◌else◌, nat_le, nat_lt, IfSome, IsTrue, codes}
+use Rattle.std.specs.Int.Digits.{digits_of}
+use Rattle.std.proofs.lemmas.Int.Digits.{length-digits_of-le}
+use Rattle.std.specs.Prelude.{max, not, ◌||◌, ◌&&◌, ◌==◌, if◌then◌else◌, nat_le, nat_lt, IfSome, IsTrue, codes}
 use Rattle.std.specs.List.{list_all}
 use Rattle.std.specs.Fmt.{decimal}
 use Rattle.std.specs.Str.{bytes_eq}
@@ -11,15 +13,15 @@ use Rattle.std.proofs.lemmas.List.Folds.{list_all-append}
 use Rattle.std.proofs.lemmas.Option.{none-some}
 use Rattle.std.proofs.lemmas.Slice.Eq.{bytes_eq-Decides}
 use Rattle.rl_base.specs.Digits.{fixed_text, at_least_text, is_digit, spelled}
-use Rattle.rl_base.proofs.Digits.{at_least_fits, decimal_plain, same_from_at_least, same_from_fixed}
+use Rattle.rl_base.proofs.Digits.{at_least_fits, decimal_plain, fixed_length, same_from_at_least, same_from_fixed}
 use Rattle.rl_base.proofs.Spelled.{fixed_digits, spelled_fixed}
 use Rattle.rl_ids.specs.declared.objects.ObjectKind.{ObjectKind}
 use Rattle.rl_ids.specs.declared.objects.ObjectKind.TheVariants.{Map, Counter}
 use Rattle.rl_ids.specs.declared.objects.ObjectId.{ObjectId}
 use Rattle.rl_ids.specs.declared.objects.ObjectId.TheVariants.{Root, Made}
 use Rattle.rl_ids.specs.declared.serials.OpSerial.{OpSerial}
-use Rattle.rl_ids.specs.Forms.{is_site_code}
-use Rattle.rl_ids.specs.Objects.{Lacks, before_at, behind_at, kind_text, object_id_text, is_hash_byte, is_hash, is_object_id, IsObjectId, made_spelled, object_id_spelled, object_id_of, ObjectIdTextsDiffer, op_serial_text, is_op_serial, IsOpSerial, op_serial_spelled, op_serial_of, OpSerialTextsDiffer}
+use Rattle.rl_ids.specs.Forms.{is_site_byte, is_site_code, IsSiteCode}
+use Rattle.rl_ids.specs.Objects.{Lacks, before_at, behind_at, kind_text, object_id_text, is_hash_byte, is_hash, is_object_id, IsObjectId, made_spelled, object_id_spelled, object_id_of, ObjectIdTextsDiffer, numbers_text, op_serial_text, is_op_serial, IsOpSerial, op_serial_spelled, op_serial_of, OpSerialTextsDiffer}
 use Rattle.rl_ids.proofs.Cuts.{and_left, and_right, lacks, before_is, behind_is}
 use Rattle.rl_ids.proofs.SerialTexts.{exactly}
 
@@ -114,10 +116,6 @@ op_serial_parts s is =
       site = and_right (nat_lt s.place (2 ^ 64) && nat_le s.index 9999) (is_site_code s.site) is;
     }
 
--- the numbers before the site
-pub numbers_text : OpSerial → List ℕ
-numbers_text s = fixed_text 10 20 s.place ++ 45 ∷ fixed_text 10 4 s.index
-
 index_fits : (index : ℕ) → index ≤ 9999 → at_least_text 10 4 index ≡ fixed_text 10 4 index
 index_fits index small = at_least_fits 10 4 index (omega arith) (omega (arith, small))
 
@@ -146,6 +144,119 @@ op_serial_value t r found every =
     exactly r (op_serial_of t)
     (λ s is. let both = subst (λ o. IfSome o (λ s. IsOpSerial s × (t ≡ op_serial_text s))) is found in op_serial_back s t both.0 both.1)
     (λ s is. let only = candidate_only is_op_serial op_serial_text (op_serial_spelled t) s t is in every s only.form only.is)
+
+-- WHERE THE TEXTS ARE CUT
+
+abbrev not_colon : ℕ → Bool
+not_colon b = not (b == 58)
+
+abbrev is_number_byte : ℕ → Bool
+is_number_byte b = is_digit b || (b == 45)
+
+pub kind_lacks : (kind : ObjectKind) → Lacks 58 (kind_text kind)
+kind_lacks Map = lacks not_colon 58 refl (codes "map") refl
+kind_lacks Counter = lacks not_colon 58 refl (codes "counter") refl
+
+pub hash_lacks : (hash : List ℕ) → is_hash hash ≡ true → Lacks 64 hash
+hash_lacks hash form = lacks is_hash_byte 64 refl hash (and_right (nat_lt 0 (length hash) && nat_le (length hash) 64) (list_all is_hash_byte hash) form)
+
+-- an id that is not the root's is cut at its colon
+pub kind_missed : (id : ObjectId) (t : List ℕ) → t ≡ object_id_text id → (t ≡ codes "root" → ⊥) → ((kind : ObjectKind) (rest : List ℕ) → t ≡ kind_text kind ++ 58 ∷ rest → ⊥) → ⊥
+kind_missed Root t is not_root none = not_root is
+kind_missed (Made Map hash millis) t is not_root none = none Map (hash ++ 64 ∷ decimal millis) is
+kind_missed (Made Counter hash millis) t is not_root none = none Counter (hash ++ 64 ∷ decimal millis) is
+
+pub place_lacks : (place : ℕ) → Lacks 45 (fixed_text 10 20 place)
+place_lacks place = lacks is_digit 45 refl (fixed_text 10 20 place) (fixed_digits 20 place)
+
+digit_or_hyphen : (xs : List ℕ) → list_all is_digit xs ≡ true → list_all is_number_byte xs ≡ true
+digit_or_hyphen [] all = refl
+digit_or_hyphen (x ∷ xs) all =
+    ap (λ b. (b || (x == 45)) && list_all is_number_byte xs) (and_left (is_digit x) (list_all is_digit xs) all)
+    ∙ digit_or_hyphen xs (and_right (is_digit x) (list_all is_digit xs) all)
+
+pub numbers_lack : (place index : ℕ) → Lacks 64 (numbers_text place index)
+unfolding numbers_text
+numbers_lack place index =
+    lacks is_number_byte 64 refl (fixed_text 10 20 place ++ 45 ∷ fixed_text 10 4 index)
+    (list_all-append is_number_byte (fixed_text 10 20 place) (45 ∷ fixed_text 10 4 index)
+    ∙ ap₂ (λ a b. a && b) (digit_or_hyphen (fixed_text 10 20 place) (fixed_digits 20 place)) (digit_or_hyphen (fixed_text 10 4 index) (fixed_digits 4 index)))
+
+pub numbers_is : (place index : ℕ) (t a b : List ℕ) → t ≡ a ++ 45 ∷ b → a ≡ fixed_text 10 20 place → b ≡ fixed_text 10 4 index → t ≡ numbers_text place index
+unfolding numbers_text
+numbers_is place index t a b whole first second = whole ∙ ap₂ (λ x y. x ++ 45 ∷ y) first second
+
+pub numbers_cut : (place index : ℕ) (t : List ℕ) → t ≡ numbers_text place index → t ≡ fixed_text 10 20 place ++ 45 ∷ fixed_text 10 4 index
+unfolding numbers_text
+numbers_cut place index t is = is
+
+-- a serial is cut before its site
+pub op_serial_cut : (s : OpSerial) (t : List ℕ) → IsOpSerial s → t ≡ op_serial_text s → t ≡ numbers_text s.place s.index ++ 64 ∷ s.site
+unfolding numbers_text
+op_serial_cut s t fits is =
+    is ∙ op_serial_whole s (op_serial_parts s fits)
+    ∙ sym (append_assoc (fixed_text 10 20 s.place) (45 ∷ fixed_text 10 4 s.index) (64 ∷ s.site))
+
+pub op_serial_joined : (s : OpSerial) (t a b : List ℕ) → IsOpSerial s → t ≡ a ++ 64 ∷ b → a ≡ numbers_text s.place s.index → b ≡ s.site → t ≡ op_serial_text s
+unfolding numbers_text
+op_serial_joined s t a b fits whole first second =
+    whole ∙ ap₂ (λ x y. x ++ 64 ∷ y) first second
+    ∙ append_assoc (fixed_text 10 20 s.place) (45 ∷ fixed_text 10 4 s.index) (64 ∷ s.site)
+    ∙ sym (op_serial_whole s (op_serial_parts s fits))
+
+abbrev pub pair : ℕ → ℕ → ℕ × ℕ
+pair a b = (a, b)
+
+abbrev pub made_serial : ℕ × ℕ → List ℕ → Option OpSerial
+made_serial numbers site = Some (record { place = numbers.0; index = numbers.1; site = site })
+
+pub op_serial_same : (s : OpSerial) (place index : ℕ) (site : List ℕ) → pair place index ≡ pair s.place s.index → site ≡ s.site
+    → made_serial (place, index) site ≡ Some s
+op_serial_same s place index site numbers own = ap₂ made_serial numbers own
+
+at_most_is : (a b : ℕ) → a ≤ b → nat_le a b ≡ true
+at_most_is a b h = grind (arith, nat_tests, h)
+
+below_is : (a b : ℕ) → a < b → nat_lt a b ≡ true
+below_is a b h = grind (arith, nat_tests, h)
+
+pub site_is : (text : List ℕ) → IsSiteCode text → is_site_code text ≡ true
+site_is text h =
+    ap₂ (λ a b. a && b) (ap₂ (λ a b. a && b) (below_is 0 (length text) h.some) (at_most_is (length text) 16 h.fits)) h.form
+
+pub site_form : (text : List ℕ) → is_site_code text ≡ true → IsSiteCode text
+site_form text is =
+    let sizes = and_left (nat_lt 0 (length text) && nat_le (length text) 16) (list_all is_site_byte text) is in
+    record {
+      some = below 0 (length text) (and_left (nat_lt 0 (length text)) (nat_le (length text) 16) sizes);
+      fits = at_most (length text) 16 (and_right (nat_lt 0 (length text)) (nat_le (length text) 16) sizes);
+      form = and_right (nat_lt 0 (length text) && nat_le (length text) 16) (list_all is_site_byte text) is;
+    }
+
+pub op_serial_fits : (s : OpSerial) → s.place < 2 ^ 64 → s.index ≤ 9999 → IsSiteCode s.site → IsOpSerial s
+op_serial_fits s p q h =
+    ap₂ (λ a b. a && b) (ap₂ (λ a b. a && b) (below_is s.place (2 ^ 64) p) (at_most_is s.index 9999 q)) (site_is s.site h)
+
+-- THE PIECES THAT ARE WRITTEN
+
+pub hyphen_length : (place : ℕ) (z a b : List ℕ) → z ≡ [] → a ≡ z ++ fixed_text 10 20 place → b ≡ a ++ 45 ∷ [] → length b ≡ 21
+hyphen_length place z a b none first second = ap length (second ∙ ap (λ x. x ++ 45 ∷ []) (first ∙ ap (λ x. x ++ fixed_text 10 20 place) none))
+
+pub index_length : (n : ℕ) → n < 2 ^ 16 → length (at_least_text 10 4 n) ≤ 5
+index_length n small =
+    let few : length (digits_of 10 n) ≤ 5 = length-digits_of-le 10 5 n (omega arith) (omega (arith, small)) in
+    rw (fixed_length 10 (max 4 (length (digits_of 10 n))) n) (grind (arith, few))
+
+pub op_pieces : (s : OpSerial) (z a b c d e site : List ℕ) (place index : ℕ) → place ≡ s.place → index ≡ s.index → site ≡ s.site
+    → z ≡ [] → a ≡ z ++ fixed_text 10 20 place → b ≡ a ++ 45 ∷ [] → c ≡ b ++ at_least_text 10 4 index → d ≡ c ++ 64 ∷ [] → e ≡ d ++ site → e ≡ op_serial_text s
+unfolding op_serial_text
+op_pieces s z a b c d e site place index own_place own_index own_site none first second third fourth last =
+    let i : List ℕ = at_least_text 10 4 s.index in
+    let p : List ℕ = fixed_text 10 20 s.place in
+    let front : a ≡ p = first ∙ ap₂ (λ x y. x ++ fixed_text 10 20 y) none own_place in
+    let upto : c ≡ (p ++ 45 ∷ []) ++ i = third ∙ ap₂ (λ x y. x ++ at_least_text 10 4 y) (second ∙ ap (λ x. x ++ 45 ∷ []) front) own_index in
+    last ∙ ap₂ (λ x y. x ++ y) (fourth ∙ ap (λ x. x ++ 64 ∷ []) upto) own_site
+    ∙ append_assoc ((p ++ 45 ∷ []) ++ i) (64 ∷ []) s.site ∙ append_assoc (p ++ 45 ∷ []) i (64 ∷ s.site) ∙ append_assoc p (45 ∷ []) (i ++ 64 ∷ s.site)
 
 -- NO TWO HAVE ONE TEXT
 
@@ -184,7 +295,8 @@ unfolding op_serial_text
 op_serial_texts_differ a b p q same =
     let place = same_from_fixed 10 20 a.place b.place (omega arith) (omega arith) (omega (arith, p)) (omega (arith, q)) (ap (take 20) same) in
     let rest : at_least_text 10 4 a.index ++ 64 ∷ a.site ≡ at_least_text 10 4 b.index ++ 64 ∷ b.site = ap (drop 21) same in
-    let parts = cut_first (at_least_text 10 4 a.index) (at_least_text 10 4 b.index) a.site b.site (fixed_digits _ a.index) (fixed_digits _ b.index) rest in
+    let digits : (n : ℕ) → list_all is_digit (at_least_text 10 4 n) ≡ true = λ n. fixed_digits (max 4 (length (digits_of 10 n))) n in
+    let parts = cut_first (at_least_text 10 4 a.index) (at_least_text 10 4 b.index) a.site b.site (digits a.index) (digits b.index) rest in
     let index = same_from_at_least 10 4 a.index b.index (omega arith) (omega arith) parts.front in
     ap (λ x. record { place = x; index = a.index; site = a.site }) place
     ∙ ap₂ (λ x y. record { place = b.place; index = x; site = y }) index parts.back
