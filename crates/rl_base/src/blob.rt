@@ -4,7 +4,7 @@ ghost use Rattle.rl_base.specs.Digits.{fixed_text};
 ghost use Rattle.std.specs.Cmp.{partial_equiv_from_equiv};
 ghost use Rattle.std.specs.Cmp.Lexicographic.{pointwise, nat_list_eq_equiv};
 
-use crate::{Code64, Copied, NoMemory, Same, Text};
+use crate::{Code64, Copied, NoMemory, Same};
 use itoa::Buffer;
 use std::alloc::Global;
 use std::marker::Model;
@@ -45,15 +45,6 @@ impl Blob {
         Ok(Blob {
             inner: Vec::from_slice(alloc, bytes)?,
         })
-    }
-
-    /// The bytes of a text, which takes no memory.
-    pub fn from_text(text: Text) -> Blob
-        ensures { result ≡ text }
-    {
-        Blob {
-            inner: text.into_string().into_bytes(),
-        }
     }
 
     pub fn as_slice(&self) -> &[u8]
@@ -117,12 +108,6 @@ impl Blob {
         let mut digits = Code64::new();
         digits.push_digits(base, width, number);
         self.extend_from_slice(digits.as_str().as_bytes())
-    }
-
-    pub fn clear(&mut self)
-        ensures { self.new ≡ [] }
-    {
-        self.inner.clear();
     }
 }
 

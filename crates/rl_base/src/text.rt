@@ -152,12 +152,6 @@ impl Text {
     {
         self.push_digits(alloc, base, width.max(digit_count(number, base)), number)
     }
-
-    pub fn clear(&mut self)
-        ensures { self.new ≡ [] }
-    {
-        self.inner.clear();
-    }
 }
 
 fn digits_of(alloc: Global, base: u8, width: u8, number: u64) -> Result<Text, NoMemory>
