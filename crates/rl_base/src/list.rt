@@ -1,15 +1,14 @@
-ghost use Rattle.std.specs.Prelude.{◌≡◌, ◌++◌, [], ◌∷◌, ◌<◌, length, take, IfOk, OnOk, OnErr, OnSome, IsTrue, ◌↔◌, MatchOption, slice_get, slice_set, remove, insert, ◌≤◌, ◌-◌, Some, IsPermutation, IsSorted, Contains, swap, reverse};
+ghost use Rattle.std.specs.Prelude.{◌≡◌, ◌++◌, [], ◌∷◌, ◌<◌, length, IfOk, OnOk, OnErr, OnSome, IsTrue, ◌↔◌, MatchOption, slice_get, slice_set, remove, insert, ◌≤◌, ◌-◌, Some, IsPermutation, IsSorted};
 ghost use Rattle.std.specs.Option.{option_copied};
 ghost use Rattle.std.specs.Borrow.{sem};
 ghost use Rattle.std.specs.Fn.{CalledAt};
 ghost use Rattle.std.specs.List.Retain.{IsFiltered};
 ghost use Rattle.std.specs.List.Sorted.{IsStable};
 ghost use Rattle.rl_base.specs.Lends.{lends_item};
-ghost use Rattle.std.specs.Cmp.Lexicographic.{pointwise, slice_cmp, slice_partial_cmp, lists_per, lists_equiv, lists_po, lists_total, lists_agrees, lists_ties};
+ghost use Rattle.std.specs.Cmp.Lexicographic.{pointwise, lists_per, lists_equiv};
 
 use crate::{Copied, NoMemory, Same};
 use std::alloc::Global;
-use std::cmp::Ordering;
 use std::marker::Model;
 
 /// A list of items. A contract sees it as the list of what they stand for.
@@ -93,13 +92,6 @@ impl<T> List<T> {
     {
         &mut self.items[at]
     }
-
-    /// Takes the last item away.
-    pub fn pop(&mut self) -> Option<T>
-        ensures { MatchOption result ((self.old ≡ []) × (self.new ≡ [])) (λ last. self.old ≡ self.new ++ last ∷ []) }
-    {
-        self.items.pop()
-    }
 }
 
 impl<T: Drop> List<T> {
@@ -129,33 +121,6 @@ impl<T: Drop> List<T> {
     {
         self.items.insert(at, item)?;
         Ok(())
-    }
-
-    /// Keeps the first `len` items.
-    pub fn truncate(&mut self, len: usize)
-        ensures { self.new ≡ take len self.old }
-    {
-        self.items.truncate(len);
-    }
-
-    pub fn reverse(&mut self)
-        ensures { self.new ≡ reverse self.old }
-    {
-        self.items.reverse();
-    }
-
-    pub fn swap(&mut self, first: usize, second: usize)
-        requires first { first < length self.old }
-        requires second { second < length self.old }
-        ensures { self.new ≡ swap self.old first second }
-    {
-        self.items.swap(first, second);
-    }
-
-    pub fn clear(&mut self)
-        ensures { self.new ≡ [] }
-    {
-        self.items.clear();
     }
 
     /// Keeps the items for which `keep` holds.
@@ -197,20 +162,6 @@ impl<T: Ord> List<T> {
     }
 }
 
-impl<T: Same> List<T> {
-    /// Whether an item is in the list.
-    pub fn contains(&self, item: &T) -> bool
-        ensures { IsTrue result ↔ Contains self.now item.now }
-    {
-        for one in self.as_slice() {
-            if one.same(item) {
-                return true;
-            }
-        }
-        false
-    }
-}
-
 impl<T: Same> Same for List<T> {
     fn same(&self, other: &List<T>) -> bool {
         if self.len() != other.len() {
@@ -249,28 +200,4 @@ impl<T: PartialEq> PartialEq for List<T> {
 
 impl<T: Eq> Eq for List<T> {
     ghost laws = { lists_equiv T.Eq.laws };
-}
-
-impl<T: PartialOrd> PartialOrd for List<T> {
-    ghost partial_cmp = { slice_partial_cmp T.partial_cmp };
-
-    ghost laws = { lists_po T.PartialOrd.laws };
-
-    fn partial_cmp(&self, other: &List<T>) -> Option<Ordering> {
-        self.items.partial_cmp(&other.items)
-    }
-}
-
-impl<T: Ord> Ord for List<T> {
-    ghost cmp = { slice_cmp T.cmp };
-
-    ghost total = { lists_total T.total };
-
-    ghost matches_partial_cmp = { lists_agrees T.matches_partial_cmp };
-
-    ghost matches_eq = { lists_ties T.cmp T.matches_eq };
-
-    fn cmp(&self, other: &List<T>) -> Ordering {
-        self.items.cmp(&other.items)
-    }
 }

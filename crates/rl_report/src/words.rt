@@ -1,10 +1,8 @@
 //! The words of a line, each with the space before it.
-ghost use Rattle.std.specs.Prelude.{◌≡◌, ◌++◌, ◌∷◌, [], ◌<◌, flat_map, decimal, OnOk};
-ghost use Rattle.rl_base.specs.Digits.{digit_glyph, fixed_text};
+ghost use Rattle.std.specs.Prelude.{◌≡◌, ◌++◌, ◌∷◌, [], flat_map, decimal, OnOk};
 ghost use Rattle.rl_ids.specs.Forms.{conn_text};
 ghost use Rattle.rl_model.specs.Report.{number_or_dash, quoted, quoted_byte, quoted_or_dash, text_or_dash, yes_or_no};
 
-use itoa::Buffer;
 use rl_ids::{Blob, ConnNo, NoMemory, Text};
 
 // A text as it is, with no space before it.
@@ -24,8 +22,8 @@ pub fn push_word(out: &mut Blob, word: &str) -> Result<(), NoMemory>
 pub fn push_number(out: &mut Blob, number: u64) -> Result<(), NoMemory>
     ensures { OnOk result (out.new ≡ out.old ++ 32 ∷ decimal number) }
 {
-    let mut buffer = Buffer::new();
-    push_word(out, buffer.format(number))
+    out.push(b' ')?;
+    out.push_decimal(number)
 }
 
 pub fn push_number_or_dash(out: &mut Blob, number: Option<u64>) -> Result<(), NoMemory>
@@ -61,30 +59,7 @@ pub fn push_conn(out: &mut Blob, conn: ConnNo) -> Result<(), NoMemory>
     ensures { OnOk result (out.new ≡ out.old ++ 32 ∷ conn_text conn) }
 {
     push_word(out, "c")?;
-    push_digits(out, 8, conn.0)
-}
-
-// The digit's character.
-fn digit_glyph(digit: u8) -> u8
-    requires { digit < 16 }
-    ensures { result ≡ digit_glyph digit }
-{
-    if digit < 10 {
-        b'0' + digit
-    } else {
-        b'a' + (digit - 10)
-    }
-}
-
-// The last `width` hexadecimal digits of a number.
-fn push_digits(out: &mut Blob, width: u8, number: u32) -> Result<(), NoMemory>
-    ensures { OnOk result (out.new ≡ out.old ++ fixed_text 16 width number) }
-{
-    if width == 0 {
-        return Ok(());
-    }
-    push_digits(out, width - 1, number / 16)?;
-    out.push(digit_glyph((number % 16) as u8))
+    out.push_digits(16, 8, u64::from(conn.0))
 }
 
 // A byte of a text in quotes.
@@ -98,7 +73,7 @@ fn push_quoted_byte(out: &mut Blob, byte: u8) -> Result<(), NoMemory>
         }
         0..=31 | 127 => {
             push_str(out, "\\u")?;
-            push_digits(out, 4, u32::from(byte))
+            out.push_digits(16, 4, u64::from(byte))
         }
         _ => out.push(byte),
     }
