@@ -1,5 +1,5 @@
 ghost use Rattle.std.specs.Prelude.{◌≡◌, ◌≤◌, ◌<◌, ◌++◌, [], ◌∷◌, ◌↔◌, length, IfOk, IsTrue, OnOk, OnErr, nat_eq};
-ghost use Rattle.std.specs.Fmt.{decimal};
+ghost use Rattle.std.specs.Fmt.{decimal, signed_decimal};
 ghost use Rattle.rl_base.specs.Digits.{fixed_text};
 ghost use Rattle.std.specs.Cmp.{partial_equiv_from_equiv};
 ghost use Rattle.std.specs.Cmp.Lexicographic.{pointwise, nat_list_eq_equiv};
@@ -91,6 +91,15 @@ impl Blob {
     /// Appends a number in decimal, without leading zeros.
     pub fn push_decimal(&mut self, number: u64) -> Result<(), NoMemory>
         ensures ok { OnOk result (self.new ≡ self.old ++ decimal number) }
+        ensures err { OnErr result (self.new ≡ self.old) }
+    {
+        let mut buffer = Buffer::new();
+        self.extend_from_slice(buffer.format(number).as_bytes())
+    }
+
+    /// Appends a number in decimal, with a sign before it where it is negative.
+    pub fn push_signed(&mut self, number: i128) -> Result<(), NoMemory>
+        ensures ok { OnOk result (self.new ≡ self.old ++ signed_decimal number) }
         ensures err { OnErr result (self.new ≡ self.old) }
     {
         let mut buffer = Buffer::new();

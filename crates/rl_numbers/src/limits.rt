@@ -208,7 +208,7 @@ pub const MAX_STEPS: u64 = 100_000;
 // SCRIPTS, AS FAR AS THEY ARE BUILT
 
 /// The most messages that a script publishes.
-pub const MAX_PUBLISHED: usize = 1_000;
+pub const MAX_PUBLISHED: u64 = 1_000;
 
 /// The most messages that a script publishes and feeds together.
-pub const MAX_PUT: usize = 4_096;
+pub const MAX_PUT: u64 = 4_096;

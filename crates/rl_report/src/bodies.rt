@@ -1,11 +1,11 @@
 //! Bodies, as the last words of a line.
 ghost use Rattle.std.specs.Prelude.{◌≡◌, ◌++◌, flat_map, OnOk};
-ghost use Rattle.rl_model.specs.Report.{action_word, body_words, item_words, presence_words, spaced};
+ghost use Rattle.rl_model.specs.Report.{action_word, body_words, item_words, op_words, presence_words, spaced};
 
 use crate::lists::{Printed, push_all};
 use crate::words::{push_quoted, push_quoted_or_dash, push_word};
 use rl_ids::{Blob, Epoch, NoMemory};
-use rl_types::{Body, Item, PresenceAction, PresenceItem};
+use rl_types::{Body, Item, ObjectOp, PresenceAction, PresenceItem};
 
 impl Printed for Item {
     ghost text_of = { λ epoch item. spaced (item_words item) };
@@ -55,6 +55,13 @@ fn push_presence(out: &mut Blob, epoch: Epoch, items: &[PresenceItem]) -> Result
     push_all(out, epoch, items)
 }
 
+// The words of all operations.
+fn push_ops(out: &mut Blob, epoch: Epoch, ops: &[ObjectOp]) -> Result<(), NoMemory>
+    ensures { OnOk result (out.new ≡ out.old ++ spaced (flat_map op_words ops.now)) }
+{
+    push_all(out, epoch, ops)
+}
+
 impl Printed for Body {
     ghost text_of = { λ epoch body. spaced (body_words body) };
 
@@ -67,6 +74,10 @@ impl Printed for Body {
             Body::Presence(items) => {
                 push_word(out, "presence")?;
                 push_presence(out, epoch, items.as_slice())
+            }
+            Body::Objects(ops) => {
+                push_word(out, "objects")?;
+                push_ops(out, epoch, ops.as_slice())
             }
         }
     }

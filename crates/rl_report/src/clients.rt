@@ -1,6 +1,7 @@
 //! Clients: their connections, their answers and what they know of their channels.
 ghost use Rattle.std.specs.Prelude.{◌≡◌, ◌++◌, ◌∷◌, [], codes, decimal, flat_map, OnOk};
-ghost use Rattle.rl_model.specs.Report.{answer_line, chan_word, client_lines, conn_word, held_word, line, member_line, spaced, text_or_dash, view_lines, yes_or_no};
+ghost use Rattle.rl_types.specs.States.{chan_word, conn_word};
+ghost use Rattle.rl_model.specs.Report.{answer_line, client_lines, held_word, line, member_line, object_lines, spaced, text_or_dash, view_lines, yes_or_no};
 
 use crate::lists::{Printed, push_all};
 use crate::words::{
@@ -8,36 +9,7 @@ use crate::words::{
     push_yes_or_no,
 };
 use rl_ids::{Blob, ChannelSerial, Epoch, NoMemory};
-use rl_types::{Answer, ChanState, ChannelView, ClientFindings, ConnState, PresenceItem};
-
-fn conn_word(state: ConnState) -> &'static str
-    ensures { result.now ≡ conn_word state }
-{
-    match state {
-        ConnState::Initialized => "initialized",
-        ConnState::Connecting => "connecting",
-        ConnState::Connected => "connected",
-        ConnState::Disconnected => "disconnected",
-        ConnState::Suspended => "suspended",
-        ConnState::Closing => "closing",
-        ConnState::Closed => "closed",
-        ConnState::Failed => "failed",
-    }
-}
-
-fn chan_word(state: ChanState) -> &'static str
-    ensures { result.now ≡ chan_word state }
-{
-    match state {
-        ChanState::Initialized => "initialized",
-        ChanState::Attaching => "attaching",
-        ChanState::Attached => "attached",
-        ChanState::Detaching => "detaching",
-        ChanState::Detached => "detached",
-        ChanState::Suspended => "suspended",
-        ChanState::Failed => "failed",
-    }
-}
+use rl_types::{Answer, ChannelView, ClientFindings, ObjectState, PresenceItem};
 
 impl Printed for Answer {
     ghost text_of = { λ epoch. answer_line };
@@ -77,7 +49,7 @@ fn push_record(out: &mut Blob, view: &ChannelView) -> Result<(), NoMemory>
 {
     push_str(out, "record")?;
     push_word(out, view.name.as_str())?;
-    push_word(out, chan_word(view.state))?;
+    push_word(out, view.state.word())?;
     push_held(out, &view.held)?;
     push_str(out, "\n")
 }
@@ -123,14 +95,25 @@ fn push_members(out: &mut Blob, view: &ChannelView) -> Result<(), NoMemory>
     push_member_lines(out, view.members.as_slice())
 }
 
-// The lines on objects. No script makes an object: only the root is there, an empty map.
-fn push_objects(out: &mut Blob, view: &ChannelView) -> Result<(), NoMemory>
+// The lines of all objects.
+fn push_object_lines(
+    out: &mut Blob,
+    epoch: Epoch,
+    objects: &[ObjectState],
+) -> Result<(), NoMemory>
+    ensures { OnOk result (out.new ≡ out.old ++ flat_map object_lines objects.now) }
+{
+    push_all(out, epoch, objects)
+}
+
+// The lines on objects.
+fn push_objects(out: &mut Blob, epoch: Epoch, view: &ChannelView) -> Result<(), NoMemory>
     ensures { OnOk result (out.new ≡ out.old
         ++ line (codes "objects") (view.now.name ∷ yes_or_no view.now.objects_whole ∷ [])
-        ++ codes "map root 0\n") }
+        ++ flat_map object_lines view.now.objects) }
 {
     push_whole(out, "objects", view.name.as_str(), view.objects_whole)?;
-    push_str(out, "map root 0\n")
+    push_object_lines(out, epoch, view.objects.as_slice())
 }
 
 impl Printed for ChannelView {
@@ -140,7 +123,7 @@ impl Printed for ChannelView {
         push_record(out, self)?;
         push_all(out, epoch, self.runs.segments.as_slice())?;
         push_members(out, self)?;
-        push_objects(out, self)
+        push_objects(out, epoch, self)
     }
 }
 
@@ -149,7 +132,7 @@ fn push_connection(out: &mut Blob, client: &ClientFindings) -> Result<(), NoMemo
     ensures { OnOk result (out.new ≡ out.old ++ spaced (client.now.name ∷ conn_word client.now.state ∷ text_or_dash client.now.conn ∷ [])) }
 {
     push_word(out, client.name.as_str())?;
-    push_word(out, conn_word(client.state))?;
+    push_word(out, client.state.word())?;
     push_text_or_dash(out, &client.conn)
 }
 

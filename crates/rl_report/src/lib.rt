@@ -12,6 +12,7 @@ mod bodies;
 mod channels;
 mod clients;
 mod lists;
+mod objects;
 mod segments;
 mod words;
 

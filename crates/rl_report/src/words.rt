@@ -1,9 +1,11 @@
 //! The words of a line, each with the space before it.
 ghost use Rattle.std.specs.Prelude.{◌≡◌, ◌++◌, ◌∷◌, [], flat_map, decimal, OnOk};
+ghost use Rattle.std.specs.Fmt.{signed_decimal};
 ghost use Rattle.rl_ids.specs.Forms.{conn_text};
+ghost use Rattle.rl_ids.specs.Objects.{object_id_text};
 ghost use Rattle.rl_model.specs.Report.{number_or_dash, quoted, quoted_byte, quoted_or_dash, text_or_dash, yes_or_no};
 
-use rl_ids::{Blob, ConnNo, NoMemory, Text};
+use rl_ids::{Blob, ConnNo, NoMemory, ObjectId, Text, object_id_code};
 
 // A text as it is, with no space before it.
 pub fn push_str(out: &mut Blob, more: &str) -> Result<(), NoMemory>
@@ -24,6 +26,20 @@ pub fn push_number(out: &mut Blob, number: u64) -> Result<(), NoMemory>
 {
     out.push(b' ')?;
     out.push_decimal(number)
+}
+
+pub fn push_signed(out: &mut Blob, number: i128) -> Result<(), NoMemory>
+    ensures { OnOk result (out.new ≡ out.old ++ 32 ∷ signed_decimal number) }
+{
+    out.push(b' ')?;
+    out.push_signed(number)
+}
+
+// An object's id.
+pub fn push_id(out: &mut Blob, id: &ObjectId) -> Result<(), NoMemory>
+    ensures { OnOk result (out.new ≡ out.old ++ 32 ∷ object_id_text id.now) }
+{
+    push_word(out, object_id_code(id).as_str())
 }
 
 pub fn push_number_or_dash(out: &mut Blob, number: Option<u64>) -> Result<(), NoMemory>

@@ -7,6 +7,7 @@ use Rattle.std.proofs.lemmas.List.Folds.{list_all-append}
 use Rattle.std.proofs.lemmas.List.Sums.{sum_by-append}
 use Rattle.std.proofs.lemmas.Slice.Eq.{bytes_eq-Decides}
 use Rattle.std.proofs.lemmas.Bool.Decides.{nat_tests}
+use Rattle.rl_numbers.specs.declared.limits.TheConstants.{MAX_PUBLISHED, MAX_PUT}
 use Rattle.rl_types.specs.declared.script.Line.{Line}
 use Rattle.rl_model.specs.Script.{is_publish, fed_by, is_settle, name_declared, channel_named, declared_names, channels_named, published, fed, ends_settled, in_scope, is_first_client, is_only_channel, is_cut}
 use Rattle.rl_scriptlang.specs.Seen.{IsSeen, is_kept, kept_after, put_by}
@@ -84,7 +85,7 @@ both : (x y : Bool) → (x && y) ≡ true → (x ≡ true) × (y ≡ true)
 both true y is = (refl, is)
 both false y is = absurd (cc)
 
-room_by : (total : ℕ) → leb total 4096 ≡ true → total ≤ 4096
+room_by : (total : ℕ) → leb total MAX_PUT ≡ true → total ≤ MAX_PUT
 room_by total is = grind (arith, nat_tests)
 
 pub seen_more : (before : List Line) (line : Line) (client channel : Option (List ℕ)) (put given : ℕ) (settled : Bool)
@@ -94,8 +95,8 @@ seen_more before line client channel put given settled seen scope =
     let opened : Bool = is_first_client before line in
     let channel_fits : Bool = is_only_channel (channel_named line) before in
     let drops : Bool = not (is_cut line) || ends_settled before in
-    let few : Bool = leb (published (before ++ line ∷ [])) 1000 in
-    let total : Bool = leb (published (before ++ line ∷ []) + fed (before ++ line ∷ [])) 4096 in
+    let few : Bool = leb (published (before ++ line ∷ [])) MAX_PUBLISHED in
+    let total : Bool = leb (published (before ++ line ∷ []) + fed (before ++ line ∷ [])) MAX_PUT in
     let room = both (((opened && channel_fits) && drops) && few) total scope in
     let front = both ((opened && channel_fits) && drops) few room.0 in
     let names = both (opened && channel_fits) drops front.0 in

@@ -5,9 +5,10 @@ use Rattle.std.specs.List.{AllByRecursion, slice_split, list_all}
 use Rattle.std.specs.Str.{is_utf8}
 use Rattle.std.specs.Str.Lines.{lines}
 use Rattle.std.proofs.lemmas.Bool.Decides.{nat_tests}
+use Rattle.rl_numbers.specs.declared.limits.TheConstants.{MAX_COUNT, MAX_FED_TEXT, MAX_TEXT, MAX_WORD}
 use Rattle.rl_types.specs.declared.script.Line.{Line}
 use Rattle.rl_types.specs.declared.script.Line.TheVariants.{Client, Open, Cut, Act, Feed, Settle}
-use Rattle.rl_types.specs.declared.script.Command.TheVariants.{Attach, AttachAt, Publish}
+use Rattle.rl_types.specs.declared.commands.Command.TheVariants.{Attach, AttachAt, Publish}
 use Rattle.rl_types.specs.declared.script.ScriptCause.{ScriptCause}
 use Rattle.rl_types.specs.declared.script.ScriptCause.TheVariants as cause
 use Rattle.rl_model.specs.Limits.{IsChannelName, IsSmallLine, AreSmallLines}
@@ -22,7 +23,7 @@ between low high n is = grind (arith, nat_tests)
 
 channel_name : (token : List ℕ) → is_channel token ≡ true → IsChannelName token
 channel_name token is =
-    let size = between 1 64 (length token) (both (is_between 1 64 (length token)) (list_all is_channel_byte token) is).0 in
+    let size = between 1 MAX_WORD (length token) (both (is_between 1 MAX_WORD (length token)) (list_all is_channel_byte token) is).0 in
     record { some = omega (arith, size.0); fits = omega (arith, size.1) }
 
 -- what a line says holds of it
@@ -81,22 +82,22 @@ small_pub text (name ∷ []) = tt
 small_pub text (name ∷ channel ∷ []) = tt
 small_pub text (name ∷ channel ∷ word ∷ words) =
     let line : Line = Act name (Publish channel (record { id = None; name = None; payload = Some text; encoding = None; client = None } ∷ [])) in
-    let last : Said = unless (is_between 1 4096 (length text)) cause.Text (says line) in
+    let last : Said = unless (is_between 1 MAX_TEXT (length text)) cause.Text (says line) in
     if_so (is_name name) cause.Name (unless (is_channel channel) cause.Channel last)
     (λ is. if_so (is_channel channel) cause.Channel last (λ named.
-    if_so (is_between 1 4096 (length text)) cause.Text (says line) (λ fits.
-    (channel_name channel named, record { id = omega arith; name = refl; payload = (between 1 4096 (length text) fits).1; encoding = refl; client = refl }))))
+    if_so (is_between 1 MAX_TEXT (length text)) cause.Text (says line) (λ fits.
+    (channel_name channel named, record { id = omega arith; name = refl; payload = (between 1 MAX_TEXT (length text) fits).1; encoding = refl; client = refl }))))
 
 small_feed : (text : List ℕ) (tokens : List (List ℕ)) → SaysSmall (feed_line text tokens)
 small_feed text [] = tt
 small_feed text (channel ∷ []) = tt
 small_feed text (channel ∷ count ∷ []) = tt
 small_feed text (channel ∷ count ∷ word ∷ words) =
-    let counted : Said = with_number (number_within 1 10000 count) (λ n. unless (is_between 1 64 (length text)) cause.Text (says (Feed channel n text))) in
+    let counted : Said = with_number (number_within 1 MAX_COUNT count) (λ n. unless (is_between 1 MAX_FED_TEXT (length text)) cause.Text (says (Feed channel n text))) in
     if_so (is_channel channel) cause.Channel counted (λ named.
-    with_any (number_within 1 10000 count) (λ n. unless (is_between 1 64 (length text)) cause.Text (says (Feed channel n text))) (λ n.
-    if_so (is_between 1 64 (length text)) cause.Text (says (Feed channel n text)) (λ fits.
-    (channel_name channel named, omega (arith, (between 1 64 (length text) fits).1)))))
+    with_any (number_within 1 MAX_COUNT count) (λ n. unless (is_between 1 MAX_FED_TEXT (length text)) cause.Text (says (Feed channel n text))) (λ n.
+    if_so (is_between 1 MAX_FED_TEXT (length text)) cause.Text (says (Feed channel n text)) (λ fits.
+    (channel_name channel named, omega (arith, (between 1 MAX_FED_TEXT (length text) fits).1)))))
 
 small_settle : (tokens : List (List ℕ)) → SaysSmall (settle_line tokens)
 small_settle [] = tt

@@ -2,11 +2,12 @@
 use Rattle.std.specs.Prelude.{◌≡◌, ℕ, ⊤, true, false, if◌then◌else◌, List, [], length, Option, Some, None, Result, Ok, Err}
 use Rattle.std.specs.Borrow.{Bor}
 use Rattle.std.specs.List.{slice_split}
+use Rattle.rl_numbers.specs.declared.limits.TheConstants.{MAX_TEXT}
 use Rattle.rl_types.specs.declared.script.ScriptCause.{ScriptCause}
 use Rattle.std.specs.Str.{is_utf8}
 use Rattle.rl_types.specs.declared.script.ScriptCause.TheVariants as cause
-use Rattle.rl_types.specs.declared.script.Command.{Command}
-use Rattle.rl_types.specs.declared.script.Command.TheVariants.{Publish}
+use Rattle.rl_types.specs.declared.commands.Command.{Command}
+use Rattle.rl_types.specs.declared.commands.Command.TheVariants.{Publish}
 use Rattle.rl_model.specs.Script.{is_space, is_channel, is_between, one_item}
 use Rattle.rl_scriptlang.specs.declared.fault.LineFault.{LineFault}
 use Rattle.rl_scriptlang.specs.declared.fault.LineFault.TheVariants.{Cause, NoMemory}
@@ -34,7 +35,7 @@ text_after (Some rest) = rest.now
 abbrev pub publish_command : List ℕ → List ℕ → Result Command ScriptCause
 publish_command channel text =
     if is_channel channel
-    then (if is_between 1 4096 (length text) then Ok (Publish channel (one_item text)) else Err cause.Text)
+    then (if is_between 1 MAX_TEXT (length text) then Ok (Publish channel (one_item text)) else Err cause.Text)
     else Err cause.Channel
 
 -- the text that bytes are, if they are UTF-8

@@ -1,6 +1,7 @@
 -- What is kept of the lines that were read.
 use Rattle.std.specs.Prelude.{◌≡◌, ◌≤◌, ◌+◌, ℕ, Bool, true, if◌then◌else◌, List, Option, Some, None, Result, Ok, Err, option_to_list, bytes_eq}
 use Rattle.std.specs.List.{list_all}
+use Rattle.rl_numbers.specs.declared.limits.TheConstants.{MAX_PUT}
 use Rattle.rl_types.specs.declared.script.Line.{Line}
 use Rattle.rl_types.specs.declared.script.ScriptCause.{ScriptCause}
 use Rattle.rl_model.specs.Script.{Said, with_line, declared_names, channels_named, published, fed, ends_settled, is_publish}
@@ -16,7 +17,7 @@ pub record IsSeen (before : List Line) (client : Option (List ℕ)) (channel : O
   pub channels : (name : List ℕ) → list_all (bytes_eq name) (channels_named before) ≡ is_kept channel name
   pub put_count : published before ≡ put
   pub given_count : fed before ≡ given
-  pub within : put + given ≤ 4096
+  pub within : put + given ≤ MAX_PUT
   pub ends : ends_settled before ≡ settled
 
 -- what is kept from now on

@@ -9,6 +9,7 @@ use crate::number::number_within;
 use crate::split::{Four, Told, cut, only_four, only_one, only_two, take_token, two_and_text};
 use crate::tokens::{channel_of, name_of, text_of};
 use rl_ids::{ChannelSerial, Epoch, List, NoMemory, Place, Text};
+use rl_numbers::limits::{MAX_COUNT, MAX_FED_TEXT, MAX_TEXT};
 use rl_types::{Command, Item, Line, ScriptCause};
 use std::alloc::Global;
 
@@ -103,7 +104,7 @@ fn publish(alloc: Global, channel: &str, text: &str) -> Result<Command, LineFaul
     ensures { Gives (λ c. c) result (publish_command channel.now text.now) }
 {
     let channel = channel_of(alloc, channel)?;
-    let text = text_of(alloc, text, 4096)?;
+    let text = text_of(alloc, text, MAX_TEXT)?;
     Ok(Command::Publish(channel, one_item(alloc, text)?))
 }
 
@@ -129,10 +130,10 @@ fn feed(alloc: Global, told: Told<'_>) -> Result<Option<Line>, LineFault>
     ensures { Gives (λ l. l) result (feed_line told.entry.text.now (told.entry.first.now ∷ told.entry.second.now ∷ [] ∷ [])) }
 {
     let channel = channel_of(alloc, told.first)?;
-    let Some(count) = number_within(1, 10_000, told.second) else {
+    let Some(count) = number_within(1, MAX_COUNT, told.second) else {
         return Err(LineFault::Cause(ScriptCause::Number));
     };
-    let text = text_of(alloc, told.text, 64)?;
+    let text = text_of(alloc, told.text, MAX_FED_TEXT)?;
     Ok(Some(Line::Feed(channel, count as u32, text)))
 }
 

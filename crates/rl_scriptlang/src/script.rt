@@ -8,18 +8,19 @@ use crate::ScriptFault;
 use crate::fault::LineFault;
 use crate::feeds::first_line;
 use crate::seen::Seen;
+use rl_numbers::limits::MAX_PUT;
 use rl_types::Script;
 use std::alloc::Global;
 
 /// Reads bytes as a script: its lines, or the number, from 1, of the first line that is refused, and why.
 /// What the lines of a script name and send is small enough to travel as frames.
-/// A script of 16,777,216 bytes is read in time and memory that are linear in them.
+/// A script of [`rl_numbers::limits::MAX_SCRIPT_SIZE`] bytes is read in time and memory that are linear in them.
 #[tactic(auto, using(crate::proofs::Small::small_lines))]
 pub fn read_script(alloc: Global, bytes: &[u8]) -> Result<Script, ScriptFault>
     requires { length bytes.now ≤ 16777216 }
     ensures said { ReadsScript result (script_of bytes.now) }
     ensures small { IfOk result (λ script. AreSmallLines script.lines) }
-    ensures few { IfOk result (λ script. published script.lines + fed script.lines ≤ 4096) }
+    ensures few { IfOk result (λ script. published script.lines + fed script.lines ≤ MAX_PUT) }
 {
     let mut seen = Seen::new(alloc);
     let mut rest = bytes;

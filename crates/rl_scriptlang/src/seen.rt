@@ -8,6 +8,7 @@ ghost use Rattle.rl_scriptlang.specs.Seen.{lines_with, kept_after, put_by};
 use crate::fault::LineFault;
 use crate::lines::line_of;
 use rl_ids::{Copied, List, NoMemory, Text};
+use rl_numbers::limits::{MAX_PUBLISHED, MAX_PUT};
 use rl_types::{Command, Line, ScriptCause};
 use std::alloc::Global;
 use std::marker::Model;
@@ -151,8 +152,7 @@ impl Seen {
             Line::Open(name) => self.is_declared(name),
             Line::Cut(name) => self.is_declared(name),
             Line::Act(name, _) => self.is_declared(name),
-            Line::Feed(_, _, _) => true,
-            Line::Settle => true,
+            _ => true,
         }
     }
 
@@ -181,10 +181,10 @@ impl Seen {
     // Whether so many messages may be published and fed.
     #[tactic(auto, using(crate::proofs::Kept::published_more, crate::proofs::Kept::fed_more))]
     fn has_room(&self, line: &Line) -> bool
-        ensures { result ≡ (nat_le (published (self.now ++ line.now ∷ [])) 1000 && nat_le (published (self.now ++ line.now ∷ []) + fed (self.now ++ line.now ∷ [])) 4096) }
+        ensures { result ≡ (nat_le (published (self.now ++ line.now ∷ [])) MAX_PUBLISHED && nat_le (published (self.now ++ line.now ∷ []) + fed (self.now ++ line.now ∷ [])) MAX_PUT) }
     {
         let published = self.published + put_by(line);
-        published <= 1000 && published + (self.fed + fed_by(line)) <= 4096
+        published <= MAX_PUBLISHED && published + (self.fed + fed_by(line)) <= 4096
     }
 
     fn in_scope(&self, line: &Line) -> bool
@@ -242,7 +242,7 @@ impl Seen {
 
     pub fn into_lines(self) -> List<Line>
         ensures lines { result ≡ self }
-        ensures few { published result + fed result ≤ 4096 }
+        ensures few { published result + fed result ≤ MAX_PUT }
     {
         let Seen {
             lines,

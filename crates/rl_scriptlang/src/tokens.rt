@@ -7,6 +7,7 @@ ghost use Rattle.rl_scriptlang.specs.Grammar.{Gives};
 
 use crate::fault::LineFault;
 use rl_ids::Text;
+use rl_numbers::limits::{MAX_NAME, MAX_WORD};
 use rl_types::ScriptCause;
 use std::alloc::Global;
 
@@ -34,14 +35,14 @@ fn is_name(token: &str) -> bool
     ensures { result ≡ is_name token.now }
 {
     let bytes = token.as_bytes();
-    1 <= bytes.len() && bytes.len() <= 16 && are_name_bytes(bytes)
+    1 <= bytes.len() && bytes.len() <= MAX_NAME && are_name_bytes(bytes)
 }
 
 fn is_channel(token: &str) -> bool
     ensures { result ≡ is_channel token.now }
 {
     let bytes = token.as_bytes();
-    1 <= bytes.len() && bytes.len() <= 64 && are_channel_bytes(bytes)
+    1 <= bytes.len() && bytes.len() <= MAX_WORD && are_channel_bytes(bytes)
 }
 
 // The name that a token is.
