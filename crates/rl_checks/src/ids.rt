@@ -30,10 +30,7 @@ fn padded_decimals_are_read(rt: HostRuntime) {
         ("007", Some(7)),
         ("", None),
         ("7 ", None),
-        (
-            "00000000000000000000000000000000000001",
-            Some(1),
-        ),
+        ("00000000000000000000000000000000000001", Some(1)),
         (
             "99999999999999999999999999999999999999",
             Some(99_999_999_999_999_999_999_999_999_999_999_999_999u128),
@@ -86,8 +83,14 @@ fn object_ids_are_read_and_written(rt: HostRuntime) -> Result<(), NoMemory> {
         ("map:a@9007199254740992", false),
         ("map:a.b@0", false),
         ("list:a@0", false),
-        ("map:0123456789012345678901234567890123456789012345678901234567890123@5", true),
-        ("map:01234567890123456789012345678901234567890123456789012345678901234@5", false),
+        (
+            "map:0123456789012345678901234567890123456789012345678901234567890123@5",
+            true,
+        ),
+        (
+            "map:01234567890123456789012345678901234567890123456789012345678901234@5",
+            false,
+        ),
         ("", false),
     ] {
         match read_object_id(text) {
@@ -130,7 +133,11 @@ fn object_ids_are_made(rt: HostRuntime) -> Result<(), NoMemory> {
             "0123456789abcdef",
             "map:1MD_3asjeNr2QW9Sd4EoMa_mz5UPyIirssrnY1hl0xY@17",
         ),
-        ("a", "b:c", "map:sO4E-IDE_0JhR54ueCK3QQruTHFZ9Bha1bDYijErSV4@17"),
+        (
+            "a",
+            "b:c",
+            "map:sO4E-IDE_0JhR54ueCK3QQruTHFZ9Bha1bDYijErSV4@17",
+        ),
     ] {
         let id = make_object_id(
             rt.alloc(),
@@ -210,7 +217,10 @@ fn ids_are_shown_as_they_are_written(rt: HostRuntime) -> Result<(), NoMemory> {
             millis: 5,
         };
         let shown = format!(in rt.alloc(); "{site} {op} {id}")?;
-        assert_eq!(rt; shown.as_str(), "s1 00000000000000000006-0000@s1 counter:a@5");
+        assert_eq!(rt;
+            shown.as_str(),
+            "s1 00000000000000000006-0000@s1 counter:a@5"
+        );
     }
     Ok(())
 }
