@@ -2,7 +2,7 @@ use Rattle.std.proofs.Common.{◌≡◌, ℕ, zero, suc, ◌+◌, ◌*◌, ◌/�
 use Rattle.std.proofs.Math.Nat.{mod-lt, pow-zero, pow-suc, pow-succ'}
 use Rattle.std.proofs.lemmas.Nat.{div-mul-add, mod-mul-add, mul-add-lt, div-add-mod', row_below_turned}
 use Rattle.std.proofs.lemmas.List.{same_from_push, length_push}
-use Rattle.std.specs.Prelude.{max, if◌then◌else◌, nat_lt}
+use Rattle.std.specs.Prelude.{max, if◌then◌else◌}
 use Rattle.std.specs.Fmt.{decimal}
 use Rattle.std.specs.Int.Digits.{digits_of}
 use Rattle.std.proofs.Math.Nat.{mod-eq_of_lt}

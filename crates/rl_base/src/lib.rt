@@ -11,6 +11,7 @@ mod copied;
 mod list;
 mod memory;
 mod numerals;
+mod room;
 mod same;
 mod text;
 
@@ -20,5 +21,6 @@ pub use copied::Copied;
 pub use list::List;
 pub use memory::NoMemory;
 pub use numerals::{read_decimal, read_digits, read_fixed, read_padded_decimal};
+pub use room::RoomyList;
 pub use same::Same;
 pub use text::Text;

@@ -1,4 +1,5 @@
 // The small types, and ids.
+use rl_base::RoomyList;
 use rl_ids::{
     Blob, ChannelSerial, Code16, ConnNo, Copied, Epoch, List, MapValue, MemberKey, NoMemory,
     ObjectId, Place, Text, read_epoch, read_serial, read_site, write_conn, write_epoch,
@@ -52,10 +53,23 @@ fn lists_grow(rt: HostRuntime) -> Result<(), NoMemory> {
 }
 
 #[test]
+fn lists_with_room_grow(rt: HostRuntime) -> Result<(), NoMemory> {
+    let mut list = List::new(rt.alloc());
+    list.push(5u64)?;
+    let mut roomy = RoomyList::from_list(list);
+    roomy.reserve(1)?;
+    roomy.push(7);
+    assert_eq!(rt; roomy.into_list().as_slice(), [5, 7].as_slice());
+    Ok(())
+}
+
+#[test]
 fn plain_values_are_copied(rt: HostRuntime) -> Result<(), NoMemory> {
     assert!(rt; is_copied(rt.alloc(), &Some(7u8))?);
     assert!(rt; is_copied(rt.alloc(), &(7u32, true))?);
     assert!(rt; is_copied(rt.alloc(), &None::<u64>)?);
+    assert!(rt; is_copied(rt.alloc(), &(-7i64, 7i128))?);
+    assert!(rt; is_copied(rt.alloc(), &7usize)?);
     Ok(())
 }
 

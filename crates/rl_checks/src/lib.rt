@@ -10,6 +10,8 @@ mod data;
 #[cfg(test)]
 mod frames;
 #[cfg(test)]
+mod ids;
+#[cfg(test)]
 mod presence;
 #[cfg(test)]
 mod scripts;

@@ -1,8 +1,8 @@
 -- Object ids and operation serials are read back from their texts, and a text that reads is their text.
-use Rattle.std.proofs.Common.{◌≡◌, ℕ, zero, suc, ◌+◌, ◌<◌, ◌≤◌, ◌^◌, Bool, true, false, Option, Some, None, List, [], ◌∷◌, ◌++◌, length, take, drop, refl, sym, ◌∙◌, ap, ap₂, subst, arith, append_assoc}
+use Rattle.std.proofs.Common.{◌≡◌, ℕ, ◌<◌, ◌≤◌, ◌^◌, Bool, true, false, Option, Some, None, List, [], ◌∷◌, ◌++◌, length, take, drop, refl, sym, ◌∙◌, ap, ap₂, subst, arith, append_assoc}
 use Rattle.std.specs.Int.Digits.{digits_of}
 use Rattle.std.proofs.lemmas.Int.Digits.{length-digits_of-le}
-use Rattle.std.specs.Prelude.{max, not, ◌||◌, ◌&&◌, ◌==◌, if◌then◌else◌, nat_le, nat_lt, IfSome, IsTrue, codes}
+use Rattle.std.specs.Prelude.{max, not, ◌||◌, ◌&&◌, ◌==◌, if◌then◌else◌, nat_le, nat_lt, IfSome, codes}
 use Rattle.std.specs.List.{list_all}
 use Rattle.std.specs.Fmt.{decimal}
 use Rattle.std.specs.Str.{bytes_eq}
@@ -21,7 +21,7 @@ use Rattle.rl_ids.specs.declared.objects.ObjectId.{ObjectId}
 use Rattle.rl_ids.specs.declared.objects.ObjectId.TheVariants.{Root, Made}
 use Rattle.rl_ids.specs.declared.serials.OpSerial.{OpSerial}
 use Rattle.rl_ids.specs.Forms.{is_site_byte, is_site_code, IsSiteCode}
-use Rattle.rl_ids.specs.Objects.{Lacks, before_at, behind_at, kind_text, object_id_text, is_hash_byte, is_hash, is_object_id, IsObjectId, made_spelled, object_id_spelled, object_id_of, ObjectIdTextsDiffer, numbers_text, op_serial_text, is_op_serial, IsOpSerial, op_serial_spelled, op_serial_of, OpSerialTextsDiffer}
+use Rattle.rl_ids.specs.Objects.{Lacks, kind_text, object_id_text, is_hash_byte, is_hash, is_object_id, IsObjectId, made_spelled, object_id_spelled, object_id_of, ObjectIdTextsDiffer, numbers_text, op_serial_text, is_op_serial, IsOpSerial, op_serial_spelled, op_serial_of, OpSerialTextsDiffer}
 use Rattle.rl_ids.proofs.Cuts.{and_left, and_right, lacks, before_is, behind_is}
 use Rattle.rl_ids.proofs.SerialTexts.{exactly}
 

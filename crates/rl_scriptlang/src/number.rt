@@ -12,9 +12,11 @@ pub fn number_within(low: u64, high: u64, token: &str) -> Option<u64>
     let Some(value) = read_decimal(token.as_bytes()) else {
         return None;
     };
-    if low <= value && value <= high {
-        Some(value)
-    } else {
-        None
+    if value < low {
+        return None;
     }
+    if value > high {
+        return None;
+    }
+    Some(value)
 }

@@ -1,4 +1,4 @@
-use Rattle.std.proofs.Common.{arith, rules, ◌/◌, ◌%◌}
+use Rattle.std.proofs.Common.{arith, ◌/◌, ◌%◌}
 use Rattle.std.proofs.lemmas.Nat.{div-add-mod'}
 use Rattle.rl_base.proofs.Digits.{found_push, every_push}
 use Rattle.rl_base.proofs.numerals.+read_digits.Goals as goal

@@ -7,5 +7,5 @@ pub returns-in_default-kind_in-clause-every : goal.returns-in_default-kind_in-cl
 returns-in_default-kind_in-clause-every c = λ id fits is.
     absurd (kind_missed id c.args.text.now is (λ e. search (rules, e))
     (λ kind rest e.
-        let cut = c.in-Some.ensures.every (kind_text kind) rest (kind_lacks kind) e in
-        c.in_default-kind_in.not-Some kind (c.kind_in.ensures.every kind cut.0)))
+    let cut = c.in-Some.ensures.every (kind_text kind) rest (kind_lacks kind) e in
+    c.in_default-kind_in.not-Some kind (c.kind_in.ensures.every kind cut.0)))

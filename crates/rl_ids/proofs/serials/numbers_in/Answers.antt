@@ -1,4 +1,4 @@
-use Rattle.std.proofs.Common.{rules, arith, ap, ap₂, sym, ◌∙◌, Some}
+use Rattle.std.proofs.Common.{rules, arith, ap₂, sym, ◌∙◌, Some}
 use Rattle.rl_base.specs.Digits.{fixed_text}
 use Rattle.rl_ids.proofs.ObjectTexts.{place_lacks, numbers_cut, numbers_is}
 use Rattle.rl_ids.proofs.SerialTexts.{some_same}
@@ -33,5 +33,5 @@ returns-clause-found c =
       search rules,
       omega (arith, index),
       numbers_is c.in-Some-read_fixed.place c.in-Some-read_fixed-2.index c.args.text.now c.in-Some.place.now c.in-Some.index.now c.in-Some.ensures.found
-      (sym c.as_bytes.ensures.value ∙ first.1) (sym c.as_bytes-2.ensures.value ∙ second.1),
+          (sym c.as_bytes.ensures.value ∙ first.1) (sym c.as_bytes-2.ensures.value ∙ second.1),
     )

@@ -1,4 +1,4 @@
-use Rattle.std.proofs.Common.{rules, refl, arith, ap, sym, ◌∙◌, length, length-append, ◌+◌, ◌≤◌, ◌<◌, subst}
+use Rattle.std.proofs.Common.{rules, refl, arith, ap, ◌∙◌, length, length-append}
 use Rattle.rl_base.specs.Digits.{at_least_text}
 use Rattle.rl_ids.proofs.ObjectTexts.{hyphen_length, index_length, op_pieces}
 use Rattle.rl_ids.proofs.serials.op_serial_code.Goals as goal

@@ -1,4 +1,4 @@
-use Rattle.std.proofs.Common.{ap₂, sym, refl, ◌∙◌, subst, Some, ℕ, true≢false}
+use Rattle.std.proofs.Common.{sym, refl, ◌∙◌, subst, true≢false}
 use Rattle.rl_ids.specs.Forms.{IsSiteCode}
 use Rattle.rl_ids.specs.Objects.{numbers_text, IsOpSerial}
 use Rattle.rl_ids.specs.declared.serials.OpSerial.{OpSerial}

@@ -1,4 +1,4 @@
-use Rattle.std.proofs.Common.{arith, ap, ◌+◌, ◌≤◌, ◌≡◌, length, take, List, ℕ}
+use Rattle.std.proofs.Common.{arith, ap, ◌+◌, ◌≤◌, length, take, List, ℕ}
 use Rattle.std.proofs.lemmas.Str.{IsUtf8-append, IsUtf8-had}
 use Rattle.rl_base.specs.Padded.{IsPadded-pushed, take-pushed, pushed_is, length-padded}
 use Rattle.rl_base.proofs.code.Code.push_str.Goals as goal
