@@ -1,6 +1,6 @@
 -- The laws of the book.
-use Rattle.std.proofs.Common.{◌≡◌, ℕ, ◌+◌, ◌-◌, ◌^◌, ◌≤◌, ◌<◌, inl, inr, max, Bool, true, false, List, [], ◌∷◌, ◌++◌, reverse, subst, ap, sym, ◌∙◌, arith, cond, refl}
-use Rattle.std.specs.Prelude.{◌==◌, if◌then◌else◌}
+use Rattle.std.proofs.Common.{◌≡◌, ℕ, ◌+◌, ◌-◌, ◌^◌, ◌≤◌, ◌<◌, inl, inr, Bool, true, false, List, [], ◌∷◌, ◌++◌, reverse, subst, ap, sym, ◌∙◌, arith, cond, refl}
+use Rattle.std.specs.Prelude.{if◌then◌else◌}
 use Rattle.std.proofs.lemmas.Bool.Decides.{nat_tests}
 use Rattle.std.proofs.lemmas.List.{reverse-append, append_assoc}
 use Rattle.rl_types.specs.declared.book.BookEvent.{BookEvent}
@@ -11,10 +11,10 @@ use Rattle.rl_connbook.specs.declared.range.NumberRange.{NumberRange}
 use Rattle.rl_connbook.specs.declared.record.Standing.{Standing}
 use Rattle.rl_connbook.specs.Records.{Answered, concerns, is_of, story, generation_of, generation_after, standing_of, raised, is_open}
 use Rattle.rl_connbook.specs.Book.{Book, book_of, decided, answered, numbers, last_number, told}
-use Rattle.rl_connbook.specs.Laws.{SomeOf, IsIn, IsWithin, Gives, IsEndOf, NumbersRise, NumbersAreWithin, NumbersAreGivenOnce, GoneNumbersStayAway, GenerationsNeverFall, KnownOutcomesCameByEnds, BusyConnectionsStay}
+use Rattle.rl_connbook.specs.Laws.{SomeOf, IsIn, IsWithin, Gives, IsEndOf, NumbersRise, NumbersAreWithin, NumbersAreGivenOnce, LimitsAreReached, GoneNumbersStayAway, GenerationsNeverFall, KnownOutcomesCameByEnds, BusyConnectionsStay}
 use Rattle.rl_connbook.proofs.Each.{all_weaker, some_reversed}
 use Rattle.rl_connbook.proofs.History.{Follows, follows}
-use Rattle.rl_connbook.proofs.Numbers.{IsGone, given_all, rising_all, bound_all, last_all, gone_all, new_number, last_given, expired_gone, expired_idle}
+use Rattle.rl_connbook.proofs.Numbers.{given_all, rising_all, bound_all, count_all, last_all, limit_reached, gone_all, new_number, last_given, expired_gone, expired_idle}
 use Rattle.rl_connbook.proofs.Outcomes.{known_is_end}
 
 -- GENERATIONS
@@ -104,6 +104,9 @@ numbers_are_given_once = record {
   above = λ range past more earlier later first second one two. above_at range (reverse past) (reverse more) earlier later first second one
       (subst (λ (events : List BookEvent). Gives second (told (book_of range (decided range events)) later)) (reverse_split past more earlier) two);
 }
+
+pub limits_are_reached : LimitsAreReached
+limits_are_reached range past event count given is = limit_reached range event (decided range (reverse past)) count given (bound_all range (reverse past)) (count_all range (reverse past)) is
 
 pub gone_numbers_stay_away : GoneNumbersStayAway
 gone_numbers_stay_away = record {

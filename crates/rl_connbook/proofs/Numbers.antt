@@ -1,18 +1,21 @@
 -- Numbers are given once, rise, and never come back. All but the last section is said of one event after any list of
 -- answered events, where its reply is the one that the definitions give.
-use Rattle.std.proofs.Common.{◌≡◌, ◌⊎◌, inl, inr, ℕ, ◌+◌, ◌≤◌, ◌<◌, max, Bool, true, false, true≢false, cond, List, [], ◌∷◌, ◌++◌, length, map, refl, ap, sym, subst, ◌∙◌, arith}
-use Rattle.std.specs.Prelude.{Option, Some, None, not, ◌==◌, ◌&&◌, if◌then◌else◌, nat_lt, find}
+use Rattle.std.proofs.Common.{◌≡◌, ◌⊎◌, inl, inr, ℕ, ◌+◌, ◌-◌, ◌≤◌, ◌<◌, max, Bool, true, false, true≢false, cond, List, [], ◌∷◌, ◌++◌, length, map, refl, ap, sym, subst, ◌∙◌, arith}
+use Rattle.std.specs.Prelude.{Option, Some, None, not, ◌==◌, ◌&&◌, ◌||◌, if◌then◌else◌, nat_lt, nat_le, find}
 use Rattle.std.specs.List.{AllByRecursion, filter}
 use Rattle.std.proofs.lemmas.Bool.Decides.{nat_tests}
+use Rattle.std.proofs.lemmas.List.{length-append, length-map}
 use Rattle.rl_types.specs.declared.book.BookEvent.{BookEvent}
 use Rattle.rl_types.specs.declared.book.BookEvent.TheVariants.{Open, Resume, Begin, End, Lost, Close, Expire}
 use Rattle.rl_types.specs.declared.book.BookReply.{BookReply}
 use Rattle.rl_types.specs.declared.book.BookReply.TheVariants.{Opened, Limit, Resumed, KeyUnknown, Go, Known, SerialGap, SerialOld, Superseded, NoRecord, Done, Expired}
+use Rattle.rl_types.specs.declared.channel.Outcome.{Outcome}
+use Rattle.rl_numbers.specs.declared.limits.TheConstants.{MAX_CONNECTIONS}
 use Rattle.rl_connbook.specs.declared.range.NumberRange.{NumberRange}
 use Rattle.rl_connbook.specs.declared.record.Record.{Record}
 use Rattle.rl_connbook.specs.Records.{Answered, record_of, raised}
-use Rattle.rl_connbook.specs.Book.{Book, book_of, numbers, numbers_after, last_number, is_opened, is_over, is_over_by, told, answered, decided, given, is_full, opened_as, record_at, at_record, begun, may_resume, resumed, has_key}
-use Rattle.rl_connbook.specs.Laws.{IsIn, AreRising, IsWithin, Gives, given_up}
+use Rattle.rl_connbook.specs.Book.{Book, book_of, numbers, numbers_after, last_number, is_opened, is_over, is_over_by, told, answered, decided, given, is_full, opened_as, record_at, at_record, begun, known, kept_outcome, may_resume, resumed, has_key}
+use Rattle.rl_connbook.specs.Laws.{IsIn, AreRising, Gives, given_up}
 use Rattle.rl_connbook.proofs.Each.{all_weaker, all_append, all_filter, all_some, some_weaker, some_split, some_filter}
 use Rattle.rl_connbook.proofs.History.{Follows, follows, last_more, last_step, last_grows}
 use Rattle.rl_connbook.proofs.Changes.{begun_opens}
@@ -138,7 +141,117 @@ pub bound_stays : (range : NumberRange) (event : BookEvent) (before : List Answe
 bound_stays range event before low =
     let a = answered range event before in
     rw (last_step range a before)
-      (bound_by (is_opened a.reply) (last_number range before) (max range.after range.last) (λ is. omega (arith, room_by event (book_of range before) is)) low)
+    (bound_by (is_opened a.reply) (last_number range before) (max range.after range.last) (λ is. omega (arith, room_by event (book_of range before) is)) low)
+
+-- HOW MANY STAND
+
+no_longer_by : (b : Bool) (n : ℕ) (ms : List ℕ) → length (cond b (n ∷ ms) ms) ≤ length ms + 1
+no_longer_by true n ms = omega arith
+no_longer_by false n ms = omega arith
+
+no_longer : (test : ℕ → Bool) (ns : List ℕ) → length (filter test ns) ≤ length ns
+no_longer test [] = omega arith
+no_longer test (n ∷ ns) = omega (arith, no_longer_by (test n) n (filter test ns), no_longer test ns)
+
+count_after : (most : ℕ) (event : BookEvent) (reply : BookReply) (before : List Answered) → (is_opened reply ≡ true → length (numbers before) < most) → length (numbers before) ≤ most → length (numbers_after event reply before (numbers before)) ≤ most
+count_after most (Open word now) (Opened n generation key) before room low = omega (arith, room refl, length-append (numbers before) (n ∷ []))
+count_after most (Open word now) reply before room low = low
+count_after most (Expire now) reply before room low = omega (arith, low, no_longer (λ n. not (is_over now (record_of n before))) (numbers before))
+count_after most event reply before room low = low
+
+as_many : (before : List Answered) (ns : List ℕ) → length {A = ℕ × Record} (map (λ n. (n, record_of n before)) ns) ≡ length ns
+as_many before ns = length-map {B = ℕ × Record} ns (λ n. (n, record_of n before))
+
+place_by : (conn word last count given : ℕ) (b : Bool) → (b ≡ false → count < MAX_CONNECTIONS) → Gives conn (if b then Limit count given else opened_as (last + 1) word) → count < MAX_CONNECTIONS
+place_by conn word last count given true free gives = absurd gives
+place_by conn word last count given false free gives = free refl
+
+place_left : (book : Book) → is_full book ≡ false → length book.records < MAX_CONNECTIONS
+place_left book h = grind (arith, nat_tests, h)
+
+-- where a connection is opened, fewer stand than may
+new_place : (conn : ℕ) (event : BookEvent) (book : Book) → Gives conn (told book event) → length book.records < MAX_CONNECTIONS
+new_place conn (Open word now) book gives = place_by conn word book.last_given (length book.records) (given book) (is_full book) (place_left book) gives
+new_place conn (Resume key now) book gives = absurd (never conn _ (resumed_opens (find (has_key key) book.records)) gives)
+new_place conn (Begin n generation serial) book gives = absurd (never conn _ (record_opens generation (begun serial) (record_at n book) (begun_opens serial)) gives)
+new_place conn (End n generation serial outcome) book gives = absurd (never conn _ (record_opens generation (λ _. Done) (record_at n book) (λ r. refl)) gives)
+new_place conn (Lost n generation now) book gives = absurd (never conn _ (record_opens generation (λ _. Done) (record_at n book) (λ r. refl)) gives)
+new_place conn (Close n generation) book gives = absurd (never conn _ (record_opens generation (λ _. Done) (record_at n book) (λ r. refl)) gives)
+new_place conn (Expire now) book gives = absurd gives
+
+pub count_stays : (range : NumberRange) (event : BookEvent) (before : List Answered) → length (numbers before) ≤ MAX_CONNECTIONS → length (numbers (answered range event before ∷ before)) ≤ MAX_CONNECTIONS
+count_stays range event before low =
+    let book = book_of range before in
+    count_after MAX_CONNECTIONS event (told book event) before
+    (λ is. let gives = opened_gives (told book event) is in omega (arith, new_place gives.0 event book gives.1, as_many before (numbers before))) low
+
+-- WHAT A LIMIT SAYS
+
+limit_by : (word last count given count_told given_told : ℕ) (b : Bool) → (if b then Limit count given else opened_as (last + 1) word) ≡ Limit count_told given_told → (b ≡ true) × (count_told ≡ count) × (given_told ≡ given)
+limit_by word last count given count_told given_told true is =
+    let one : count ≡ count_told = cc in
+    let two : given ≡ given_told = cc in
+    (refl, sym one, sym two)
+limit_by word last count given count_told given_told false is = absurd (cc)
+
+full_by : (a b : Bool) (count last most : ℕ) → nat_le MAX_CONNECTIONS count ≡ a → nat_le most last ≡ b → (a || b) ≡ true → (MAX_CONNECTIONS ≤ count) ⊎ (most ≤ last)
+full_by true b count last most one two is = inl (grind (arith, nat_tests, one))
+full_by false true count last most one two is = inr (grind (arith, nat_tests, two))
+full_by false false count last most one two is = absurd (cc)
+
+limit_of : (range : NumberRange) (count given last : ℕ) → range.after ≤ last → last ≤ max range.after range.last → count ≤ MAX_CONNECTIONS → given ≡ last - range.after → (MAX_CONNECTIONS ≤ count) ⊎ (range.last ≤ last) → (count ≡ MAX_CONNECTIONS) ⊎ (given ≡ range.last - range.after)
+limit_of range count given last low high few is (inl full) = inl (omega (arith, few, full))
+limit_of range count given last low high few is (inr none) = inr (omega (arith, low, high, is, none))
+
+no_limit_record : (generation count given : ℕ) (reply : Record → BookReply) (found : Option Record) → ((r : Record) → reply r ≡ Limit count given → ⊥) → at_record generation reply found ≡ Limit count given → ⊥
+no_limit_record generation count given reply None each is = cc
+no_limit_record generation count given reply (Some r) each is = by_late (nat_lt generation r.generation) is
+  where
+    by_late : (b : Bool) → (if b then Superseded r.generation else reply r) ≡ Limit count given → ⊥
+    by_late true is = cc
+    by_late false is = each r is
+
+no_limit_resumed : (count given : ℕ) (found : Option (ℕ × Record)) → resumed found ≡ Limit count given → ⊥
+no_limit_resumed count given None is = cc
+no_limit_resumed count given (Some e) is = by_may (may_resume e.1) is
+  where
+    by_may : (b : Bool) → (if b then Resumed e.0 (raised e.1.generation) else KeyUnknown) ≡ Limit count given → ⊥
+    by_may true is = cc
+    by_may false is = cc
+
+no_limit_known : (serial expected count given : ℕ) (kept : Option Outcome) → known serial expected kept ≡ Limit count given → ⊥
+no_limit_known serial expected count given None is = cc
+no_limit_known serial expected count given (Some outcome) is = cc
+
+no_limit_begun : (serial count given : ℕ) (r : Record) → begun serial r ≡ Limit count given → ⊥
+no_limit_begun serial count given r is = by_serial (serial == r.expected) (nat_lt serial r.expected) r.begun is
+  where
+    by_serial : (a b c : Bool) → (if a then Go else if b then known serial r.expected (kept_outcome serial r.outcomes) else if c then SerialGap serial r.expected else Go) ≡ Limit count given → ⊥
+    by_serial true b c is = cc
+    by_serial false true c is = no_limit_known serial r.expected count given (kept_outcome serial r.outcomes) is
+    by_serial false false true is = cc
+    by_serial false false false is = cc
+
+-- a Limit comes where no connection more can be opened, and says how many stand and how many numbers were given
+limit_told : (event : BookEvent) (book : Book) (count_told given_told : ℕ) → told book event ≡ Limit count_told given_told → (is_full book ≡ true) × (count_told ≡ length book.records) × (given_told ≡ given book)
+limit_told (Open word now) book count given_told is = limit_by word book.last_given (length book.records) (given book) count given_told (is_full book) is
+limit_told (Resume key now) book count given_told is = absurd (no_limit_resumed count given_told (find (has_key key) book.records) is)
+limit_told (Begin n generation serial) book count given_told is = absurd (no_limit_record generation count given_told (begun serial) (record_at n book) (λ r here. no_limit_begun serial count given_told r here) is)
+limit_told (End n generation serial outcome) book count given_told is = absurd (no_limit_record generation count given_told (λ _. Done) (record_at n book) (λ r here. cc) is)
+limit_told (Lost n generation now) book count given_told is = absurd (no_limit_record generation count given_told (λ _. Done) (record_at n book) (λ r here. cc) is)
+limit_told (Close n generation) book count given_told is = absurd (no_limit_record generation count given_told (λ _. Done) (record_at n book) (λ r here. cc) is)
+limit_told (Expire now) book count given_told is = absurd (cc)
+
+pub limit_reached : (range : NumberRange) (event : BookEvent) (before : List Answered) (count_told given_told : ℕ) → last_number range before ≤ max range.after range.last → length (numbers before) ≤ MAX_CONNECTIONS
+    → told (book_of range before) event ≡ Limit count_told given_told → (count_told ≡ MAX_CONNECTIONS) ⊎ (given_told ≡ range.last - range.after)
+limit_reached range event before count_told given_told high few is =
+    let book = book_of range before in
+    let told_so = limit_told event book count_told given_told is in
+    let count : count_told ≡ length (numbers before) = told_so.1 ∙ as_many before (numbers before) in
+    let full : (MAX_CONNECTIONS ≤ length book.records) ⊎ (range.last ≤ last_number range before) =
+    full_by (nat_le MAX_CONNECTIONS (length book.records)) (nat_le range.last (last_number range before)) (length book.records) (last_number range before) range.last refl refl told_so.0 in
+    limit_of range count_told given_told (last_number range before) (omega arith) high (omega (arith, count, few)) told_so.2
+    (elim full [ inl many ↦ inl (omega (arith, many, told_so.1)) | inr none ↦ inr none ])
 
 -- A NUMBER THAT DOES NOT STAND ANY MORE NEVER COMES BACK
 
@@ -224,6 +337,10 @@ rising_all range (event ∷ past) = rising_stays range event (decided range past
 pub bound_all : (range : NumberRange) (past : List BookEvent) → last_number range (decided range past) ≤ max range.after range.last
 bound_all range [] = omega arith
 bound_all range (event ∷ past) = bound_stays range event (decided range past) (bound_all range past)
+
+pub count_all : (range : NumberRange) (past : List BookEvent) → length (numbers (decided range past)) ≤ MAX_CONNECTIONS
+count_all range [] = omega arith
+count_all range (event ∷ past) = count_stays range event (decided range past) (count_all range past)
 
 pub last_all : (range : NumberRange) (past more : List BookEvent) → last_number range (decided range past) ≤ last_number range (decided range (more ++ past))
 last_all range past [] = omega arith

@@ -1,11 +1,11 @@
 -- A new connection, and what an End leaves where no record is there.
-use Rattle.std.proofs.Common.{◌≡◌, ℕ, ◌+◌, ◌^◌, ◌<◌, Bool, true, false, List, [], ◌∷◌, ◌++◌, length, refl, ap, sym, ◌∙◌, arith, ◌≤◌, cond}
+use Rattle.std.proofs.Common.{◌≡◌, ℕ, ◌+◌, ◌<◌, Bool, true, false, List, [], ◌∷◌, ◌++◌, length, refl, ap, sym, ◌∙◌, arith, ◌≤◌, cond}
 use Rattle.std.specs.Prelude.{Option, Some, None, if◌then◌else◌, not}
 use Rattle.std.specs.List.{AllByRecursion, filter}
 use Rattle.std.proofs.lemmas.Bool.Decides.{nat_tests}
 use Rattle.rl_types.specs.declared.book.BookEvent.TheVariants.{Open, End, Expire}
 use Rattle.rl_types.specs.declared.book.BookReply.{BookReply}
-use Rattle.rl_types.specs.declared.book.BookReply.TheVariants.{Opened, Limit, NoRecord}
+use Rattle.rl_types.specs.declared.book.BookReply.TheVariants.{Limit, NoRecord}
 use Rattle.rl_types.specs.declared.channel.Outcome.{Outcome}
 use Rattle.rl_connbook.specs.declared.record.Record.{Record}
 use Rattle.rl_connbook.specs.Book.{Book, given, is_full, opened, opened_as, is_opened, is_over, key_text}

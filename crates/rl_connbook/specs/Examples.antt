@@ -6,7 +6,6 @@ use Rattle.rl_types.specs.declared.book.BookReply.{BookReply}
 use Rattle.rl_types.specs.declared.book.BookReply.TheVariants.{Opened, Limit, Resumed, KeyUnknown, Go, Known, SerialGap, SerialOld, Superseded, NoRecord, Done, Expired}
 use Rattle.rl_types.specs.declared.channel.Outcome.TheVariants.{Taken}
 use Rattle.rl_numbers.specs.declared.limits.TheConstants.{MAX_CONNECTION}
-use Rattle.rl_connbook.specs.declared.range.NumberRange.{NumberRange}
 use Rattle.rl_connbook.specs.Records.{Answered}
 use Rattle.rl_connbook.specs.Book.{history}
 

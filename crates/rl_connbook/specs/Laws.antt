@@ -1,11 +1,12 @@
 -- Laws of the book, over every range of numbers and every list of events. A list of events has the earliest first.
-use Rattle.std.specs.Prelude.{◌≡◌, ℕ, ◌≤◌, ◌<◌, ⊤, ◌⊎◌, List, [], ◌∷◌, ◌++◌, Some}
+use Rattle.std.specs.Prelude.{◌≡◌, ℕ, ◌-◌, ◌≤◌, ◌<◌, ⊤, ◌⊎◌, List, [], ◌∷◌, ◌++◌, Some}
 use Rattle.std.specs.List.{AllByRecursion}
 use Rattle.rl_types.specs.declared.book.BookEvent.{BookEvent}
 use Rattle.rl_types.specs.declared.book.BookEvent.TheVariants.{Begin, End, Expire}
 use Rattle.rl_types.specs.declared.book.BookReply.{BookReply}
-use Rattle.rl_types.specs.declared.book.BookReply.TheVariants.{Opened, Known, Expired}
+use Rattle.rl_types.specs.declared.book.BookReply.TheVariants.{Opened, Limit, Known, Expired}
 use Rattle.rl_types.specs.declared.channel.Outcome.{Outcome}
+use Rattle.rl_numbers.specs.declared.limits.TheConstants.{MAX_CONNECTIONS}
 use Rattle.rl_connbook.specs.declared.range.NumberRange.{NumberRange}
 use Rattle.rl_connbook.specs.Records.{record_of}
 use Rattle.rl_connbook.specs.Book.{numbers, last_number, history, reply_after}
@@ -67,6 +68,11 @@ pub record NumbersAreGivenOnce : Type 0 where
       → Gives conn (reply_after range past event) → IsWithin range conn
   pub above : (range : NumberRange) (past more : List BookEvent) (earlier later : BookEvent) (first second : ℕ)
       → Gives first (reply_after range past earlier) → Gives second (reply_after range (past ++ earlier ∷ more) later) → first < second
+
+-- an Open is refused where as many connections stand as may, or as many numbers were given as the range has
+abbrev pub LimitsAreReached : Type 0
+LimitsAreReached = (range : NumberRange) (past : List BookEvent) (event : BookEvent) (count given : ℕ)
+    → reply_after range past event ≡ Limit count given → (count ≡ MAX_CONNECTIONS) ⊎ (given ≡ range.last - range.after)
 
 -- a number that was given and does not stand any more never stands again: so each that an Expire gave up
 pub record GoneNumbersStayAway : Type 0 where

@@ -1,6 +1,6 @@
 //! Laws over the definitions of the book alone: over every range of numbers and every list of events.
 ghost use Rattle.rl_connbook.specs.Examples.{Replies};
-ghost use Rattle.rl_connbook.specs.Laws.{NumbersRise, NumbersAreWithin, NumbersAreGivenOnce, GoneNumbersStayAway, GenerationsNeverFall, KnownOutcomesCameByEnds, BusyConnectionsStay};
+ghost use Rattle.rl_connbook.specs.Laws.{NumbersRise, NumbersAreWithin, NumbersAreGivenOnce, LimitsAreReached, GoneNumbersStayAway, GenerationsNeverFall, KnownOutcomesCameByEnds, BusyConnectionsStay};
 
 /// The connections that stand are in rising order of number.
 #[tactic(auto, using(crate::proofs::BookLaws::numbers_rise))]
@@ -18,6 +18,13 @@ pub fn numbers_are_within()
 #[tactic(auto, using(crate::proofs::BookLaws::numbers_are_given_once))]
 pub fn numbers_are_given_once()
     ensures { NumbersAreGivenOnce }
+{}
+
+/// `Limit` comes only where [`MAX_CONNECTIONS`](rl_numbers::limits::MAX_CONNECTIONS) stand, or where the book gave
+/// as many numbers as its range has. It says so.
+#[tactic(auto, using(crate::proofs::BookLaws::limits_are_reached))]
+pub fn limits_are_reached()
+    ensures { LimitsAreReached }
 {}
 
 /// A number that was given and does not stand any more never stands again; so each that an `Expire` gave up.

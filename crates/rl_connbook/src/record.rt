@@ -71,7 +71,9 @@ impl Record {
         }
         match self.standing {
             Standing::Live => false,
-            Standing::LostSince(since) => { now.0 >= CONNECTION_STATE_TTL && since.0 <= now.0 - CONNECTION_STATE_TTL }
+            Standing::LostSince(since) => {
+                now.0 >= CONNECTION_STATE_TTL && since.0 <= now.0 - CONNECTION_STATE_TTL
+            }
             Standing::Closed => true,
         }
     }
