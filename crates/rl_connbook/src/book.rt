@@ -51,13 +51,13 @@ use std::marker::Model;
 /// the slot in steps of about the logarithm of n. `Resume` finds it by its key the same way: a key has the number
 /// in its place, and the two keys are then compared. What each event costs beside that:
 ///
-/// - `Begin` below the expected serial looks at the outcomes that are kept, at most 1,024, and `End` may move them.
+/// - `Begin` below the expected serial looks at the outcomes that are kept, and `End` may move them.
 /// - `Open`, `Resume`, `Lost` and `Close` put the connection's deadline in its place among the others: a search by
 ///   halves, and a move of at most 16 bytes for each of n in one piece.
 /// - `Expire` looks at the connections whose deadline has come, and at one deadline more: a live one has no
-///   deadline before 2^64 - 1, a lost one has it 120 seconds after the loss, a closed one at once. It sorts their
-///   numbers, tests each, and removes each one that is over, which costs as much as a `Close`. One that has a call
-///   in flight keeps its deadline, and is tested again by the next `Expire`.
+///   deadline before 2^64 - 1, a lost one has it `CONNECTION_STATE_TTL` after the loss, a closed one at once. It
+///   sorts their numbers, tests each, and removes each one that is over, which costs as much as a `Close`. One that
+///   has a call in flight keeps its deadline, and is tested again by the next `Expire`.
 #[derive(Drop)]
 pub struct ConnBook {
     range: NumberRange,
