@@ -104,13 +104,13 @@ unchanged event reply book is opens stays same =
 
 -- SOUNDNESS
 
-below_by : (given conn : ℕ) (r : Record) (e : ℕ × Record) (es : List (ℕ × Record)) (b : Bool) → e.0 ≤ given → AllByRecursion (λ e. e.0 ≤ given) es → AllByRecursion (λ e. e.0 ≤ given) (set_at conn es r) → AllByRecursion (λ e. e.0 ≤ given) (cond b ((e.0, r) ∷ es) (e ∷ set_at conn es r))
-below_by given conn r e es true here all rest = (here, all)
-below_by given conn r e es false here all rest = (here, rest)
+below_by : (last conn : ℕ) (r : Record) (e : ℕ × Record) (es : List (ℕ × Record)) (b : Bool) → e.0 ≤ last → AllByRecursion (λ e. e.0 ≤ last) es → AllByRecursion (λ e. e.0 ≤ last) (set_at conn es r) → AllByRecursion (λ e. e.0 ≤ last) (cond b ((e.0, r) ∷ es) (e ∷ set_at conn es r))
+below_by last conn r e es true here all rest = (here, all)
+below_by last conn r e es false here all rest = (here, rest)
 
-below_set : (given conn : ℕ) (r : Record) (es : List (ℕ × Record)) → AllByRecursion (λ e. e.0 ≤ given) es → AllByRecursion (λ e. e.0 ≤ given) (set_at conn es r)
-below_set given conn r [] all = tt
-below_set given conn r (e ∷ es) all = below_by given conn r e es (is_at (nat_cmp conn) e.0) all.0 all.1 (below_set given conn r es all.1)
+below_set : (last conn : ℕ) (r : Record) (es : List (ℕ × Record)) → AllByRecursion (λ e. e.0 ≤ last) es → AllByRecursion (λ e. e.0 ≤ last) (set_at conn es r)
+below_set last conn r [] all = tt
+below_set last conn r (e ∷ es) all = below_by last conn r e es (is_at (nat_cmp conn) e.0) all.0 all.1 (below_set last conn r es all.1)
 
 keyed_by : (conn : ℕ) (old new : Record) (e : ℕ × Record) (es : List (ℕ × Record)) (b : Bool) → new.key ≡ old.key → cond b (Some e.1) (lookup (is_at (nat_cmp conn)) es) ≡ Some old → IsNumbered e.0 e.1.key → AllByRecursion (λ e. IsNumbered e.0 e.1.key) es → (lookup (is_at (nat_cmp conn)) es ≡ Some old → AllByRecursion (λ e. IsNumbered e.0 e.1.key) (set_at conn es new)) → AllByRecursion (λ e. IsNumbered e.0 e.1.key) (cond b ((e.0, new) ∷ es) (e ∷ set_at conn es new))
 keyed_by conn old new e es true key found here all rest =
@@ -122,9 +122,9 @@ keyed_set : (conn : ℕ) (old new : Record) (es : List (ℕ × Record)) → new.
 keyed_set conn old new [] key found all = tt
 keyed_set conn old new (e ∷ es) key found all = keyed_by conn old new e es (is_at (nat_cmp conn) e.0) key found all.0 all.1 (λ later. keyed_set conn old new es key later all.1)
 
-pub sound_set : (given conn : ℕ) (old new : Record) (es : List (ℕ × Record)) → new.key ≡ old.key → lookup (is_at (nat_cmp conn)) es ≡ Some old → IsSound given es → IsSound given (set_at conn es new)
-sound_set given conn old new es key found sound = record {
-  below = below_set given conn new es sound.below;
+pub sound_set : (last conn : ℕ) (old new : Record) (es : List (ℕ × Record)) → new.key ≡ old.key → lookup (is_at (nat_cmp conn)) es ≡ Some old → IsSound last es → IsSound last (set_at conn es new)
+sound_set last conn old new es key found sound = record {
+  below = below_set last conn new es sound.below;
   keyed = keyed_set conn old new es key found sound.keyed;
 }
 
@@ -150,10 +150,10 @@ key_kept NoRecord key h = refl
 key_kept Done key h = refl
 key_kept (Expired conns) key h = refl
 
-pub sound_after : (event : BookEvent) (reply : BookReply) (conn given : ℕ) (r new : Record) (old es : List (ℕ × Record)) → is_opened reply ≡ false → lookup (is_at (nat_cmp conn)) old ≡ Some r → new ≡ record_after event reply r → es ≡ set_at conn old new → IsSound given old → IsSound given es
-sound_after event reply conn given r new old es opens found made set sound =
+pub sound_after : (event : BookEvent) (reply : BookReply) (conn last : ℕ) (r new : Record) (old es : List (ℕ × Record)) → is_opened reply ≡ false → lookup (is_at (nat_cmp conn)) old ≡ Some r → new ≡ record_after event reply r → es ≡ set_at conn old new → IsSound last old → IsSound last es
+sound_after event reply conn last r new old es opens found made set sound =
     let key : new.key ≡ r.key = ap (λ (x : Record). x.key) made ∙ key_kept reply r.key opens in
-    subst (IsSound given) (sym set) (sound_set given conn r new old key found sound)
+    subst (IsSound last) (sym set) (sound_set last conn r new old key found sound)
 
 pub at_none : (generation : ℕ) (reply : Record → BookReply) (found : Option Record) → found ≡ None → at_record generation reply found ≡ NoRecord
 at_none generation reply found h = ap (at_record generation reply) h

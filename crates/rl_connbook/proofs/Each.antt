@@ -26,15 +26,6 @@ module _ {X : Type 0} where
   some_weaker P Q weaker (x ∷ xs) (inl p) = inl (weaker x p)
   some_weaker P Q weaker (x ∷ xs) (inr some) = inr (some_weaker P Q weaker xs some)
 
-  pub some_before : (P : X → Type 0) (xs ys : List X) → SomeOf P ys → SomeOf P (xs ++ ys)
-  some_before P [] ys some = some
-  some_before P (x ∷ xs) ys some = inr (some_before P xs ys some)
-
-  pub some_behind : (P : X → Type 0) (xs ys : List X) → SomeOf P xs → SomeOf P (xs ++ ys)
-  some_behind P [] ys some = absurd some
-  some_behind P (x ∷ xs) ys (inl p) = inl p
-  some_behind P (x ∷ xs) ys (inr some) = inr (some_behind P xs ys some)
-
   pub some_split : (P : X → Type 0) (xs ys : List X) → SomeOf P (xs ++ ys) → SomeOf P xs ⊎ SomeOf P ys
   some_split P [] ys some = inr some
   some_split P (x ∷ xs) ys (inl p) = inl (inl p)

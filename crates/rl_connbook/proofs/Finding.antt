@@ -1,4 +1,4 @@
--- A record found by the number in its key, and a new one behind the others.
+-- A record found by the number in its key, and a new one after the others.
 use Rattle.std.proofs.Common.{◌≡◌, ℕ, ◌+◌, ◌^◌, ◌<◌, ◌≤◌, Bool, true, false, cond, List, [], ◌∷◌, ◌++◌, length, take, map, refl, ap, sym, subst, ◌∙◌, arith}
 use Rattle.std.specs.Prelude.{◌&&◌, Option, Some, None, if◌then◌else◌, find, bytes_eq}
 use Rattle.std.specs.List.{AllByRecursion, filter}
@@ -91,16 +91,16 @@ resumed_one n key r es may is keyed rises found h =
 
 -- A NEW ONE
 
-greater : (k n given : ℕ) → n ≤ given → k ≡ given + 1 → nat_cmp k n ≡ Greater
-greater k n given h is = grind (arith, nat_tests)
+greater : (k n last : ℕ) → n ≤ last → k ≡ last + 1 → nat_cmp k n ≡ Greater
+greater k n last h is = grind (arith, nat_tests)
 
-pub inserted_last : (k given : ℕ) (r : Record) (es : List (ℕ × Record)) → k ≡ given + 1 → AllByRecursion (λ e. e.0 ≤ given) es → insert_entry nat_cmp es k r ≡ es ++ (k, r) ∷ []
-inserted_last k given r [] is below = refl
-inserted_last k given r (e ∷ es) is below = rw (greater k e.0 given below.0 is) (ap (λ (xs : List (ℕ × Record)). e ∷ xs) (inserted_last k given r es is below.1))
+pub inserted_last : (k last : ℕ) (r : Record) (es : List (ℕ × Record)) → k ≡ last + 1 → AllByRecursion (λ e. e.0 ≤ last) es → insert_entry nat_cmp es k r ≡ es ++ (k, r) ∷ []
+inserted_last k last r [] is below = refl
+inserted_last k last r (e ∷ es) is below = rw (greater k e.0 last below.0 is) (ap (λ (xs : List (ℕ × Record)). e ∷ xs) (inserted_last k last r es is below.1))
 
-below_more : (k given : ℕ) (r : Record) (es : List (ℕ × Record)) → k ≡ given + 1 → AllByRecursion (λ e. e.0 ≤ given) es → AllByRecursion (λ e. e.0 ≤ k) (es ++ (k, r) ∷ [])
-below_more k given r [] is below = (omega arith, tt)
-below_more k given r (e ∷ es) is below = (omega (arith, below.0, is), below_more k given r es is below.1)
+below_more : (k last : ℕ) (r : Record) (es : List (ℕ × Record)) → k ≡ last + 1 → AllByRecursion (λ e. e.0 ≤ last) es → AllByRecursion (λ e. e.0 ≤ k) (es ++ (k, r) ∷ [])
+below_more k last r [] is below = (omega arith, tt)
+below_more k last r (e ∷ es) is below = (omega (arith, below.0, is), below_more k last r es is below.1)
 
 keyed_more : (k : ℕ) (r : Record) (es : List (ℕ × Record)) → IsNumbered k r.key → AllByRecursion (λ e. IsNumbered e.0 e.1.key) es → AllByRecursion (λ e. IsNumbered e.0 e.1.key) (es ++ (k, r) ∷ [])
 keyed_more k r [] is keyed = (is, tt)
@@ -115,9 +115,9 @@ front_taken w n xs ys is =
 pub number_new : (n word : ℕ) → n < 2 ^ 32 → IsNumbered n (key_text n word)
 number_new n word h = record { small = h; digits = front_taken 8 n (fixed_text 16 8 n) (33 ∷ fixed_text 16 16 word) refl }
 
-pub sound_more : (k given word : ℕ) (r : Record) (es : List (ℕ × Record)) → k ≡ given + 1 → k < 2 ^ 32 → r.key ≡ key_text k word → IsSound given es → IsSound k (es ++ (k, r) ∷ [])
-sound_more k given word r es is small key sound = record {
-  below = below_more k given r es is sound.below;
+pub sound_more : (k last word : ℕ) (r : Record) (es : List (ℕ × Record)) → k ≡ last + 1 → k < 2 ^ 32 → r.key ≡ key_text k word → IsSound last es → IsSound k (es ++ (k, r) ∷ [])
+sound_more k last word r es is small key sound = record {
+  below = below_more k last r es is sound.below;
   keyed = keyed_more k r es (subst (IsNumbered k) (sym key) (number_new k word small)) sound.keyed;
 }
 

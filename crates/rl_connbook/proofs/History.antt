@@ -52,15 +52,15 @@ expired_same : (now : ℕ) (reply : BookReply) (before : List Answered) (ns : Li
 expired_same now reply before [] = refl
 expired_same now reply before (n ∷ ns) = ap (λ (rest : List (ℕ × Record)). (n, record_of n before) ∷ rest) (expired_same now reply before ns)
 
-other : (conn n given : ℕ) → n ≤ given → conn ≡ given + 1 → (conn == n) ≡ false
-other conn n given h is = grind (arith, nat_tests)
+other : (conn n last : ℕ) → n ≤ last → conn ≡ last + 1 → (conn == n) ≡ false
+other conn n last h is = grind (arith, nat_tests)
 
-opened_same : (word now conn generation given : ℕ) (key : List ℕ) (before : List Answered) (ns : List ℕ) → conn ≡ given + 1 → AllByRecursion (λ n. n ≤ given) ns → records_of (record { event = Open word now; reply = Opened conn generation key } ∷ before) ns ≡ records_of before ns
-opened_same word now conn generation given key before [] is below = refl
-opened_same word now conn generation given key before (n ∷ ns) is below =
+opened_same : (word now conn generation last : ℕ) (key : List ℕ) (before : List Answered) (ns : List ℕ) → conn ≡ last + 1 → AllByRecursion (λ n. n ≤ last) ns → records_of (record { event = Open word now; reply = Opened conn generation key } ∷ before) ns ≡ records_of before ns
+opened_same word now conn generation last key before [] is below = refl
+opened_same word now conn generation last key before (n ∷ ns) is below =
     let a : Answered = record { event = Open word now; reply = Opened conn generation key } in
-    ap (λ (r : Record). (n, r) ∷ records_of (a ∷ before) ns) (record_same n a before (other conn n given below.0 is))
-    ∙ ap (λ (rest : List (ℕ × Record)). (n, record_of n before) ∷ rest) (opened_same word now conn generation given key before ns is below.1)
+    ap (λ (r : Record). (n, r) ∷ records_of (a ∷ before) ns) (record_same n a before (other conn n last below.0 is))
+    ∙ ap (λ (rest : List (ℕ × Record)). (n, record_of n before) ∷ rest) (opened_same word now conn generation last key before ns is below.1)
 
 map_append : {A B : Type 0} (f : A → B) (xs ys : List A) → map f (xs ++ ys) ≡ map f xs ++ map f ys
 map_append f [] ys = refl
@@ -69,40 +69,26 @@ map_append f (x ∷ xs) ys = ap (λ (zs : List _). f x ∷ zs) (map_append f xs 
 self_same : (n : ℕ) → (n == n) ≡ true
 self_same n = grind (arith, nat_tests)
 
-opened_more : (word now conn generation given : ℕ) (key : List ℕ) (before : List Answered) (ns : List ℕ) → conn ≡ given + 1 → AllByRecursion (λ n. n ≤ given) ns → records_of (record { event = Open word now; reply = Opened conn generation key } ∷ before) (ns ++ conn ∷ []) ≡ records_of before ns ++ (conn, new_record key) ∷ []
-opened_more word now conn generation given key before ns is below =
+opened_more : (word now conn generation last : ℕ) (key : List ℕ) (before : List Answered) (ns : List ℕ) → conn ≡ last + 1 → AllByRecursion (λ n. n ≤ last) ns → records_of (record { event = Open word now; reply = Opened conn generation key } ∷ before) (ns ++ conn ∷ []) ≡ records_of before ns ++ (conn, new_record key) ∷ []
+opened_more word now conn generation last key before ns is below =
     let a : Answered = record { event = Open word now; reply = Opened conn generation key } in
     map_append (λ n. (n, record_of n (a ∷ before))) ns (conn ∷ [])
-    ∙ ap (λ (es : List (ℕ × Record)). es ++ (conn, record_of conn (a ∷ before)) ∷ []) (opened_same word now conn generation given key before ns is below)
+    ∙ ap (λ (es : List (ℕ × Record)). es ++ (conn, record_of conn (a ∷ before)) ∷ []) (opened_same word now conn generation last key before ns is below)
     ∙ ap (λ (r : Record). records_of before ns ++ (conn, r) ∷ []) (record_new conn a before (self_same conn))
 
 -- what an Opened says is the next number
 abbrev pub Follows : BookEvent → BookReply → ℕ → Type 0
-Follows (Open word now) (Opened conn generation key) given = conn ≡ given + 1
-Follows event reply given = Unit {0}
+Follows (Open word now) (Opened conn generation key) last = conn ≡ last + 1
+Follows event reply last = Unit {0}
 
 stay : (event : BookEvent) (reply : BookReply) (before : List Answered) → records_of (record { event = event; reply = reply } ∷ before) (numbers before) ≡ map (entry_after event reply) (records_of before (numbers before))
 stay event reply before = mapped (record { event = event; reply = reply }) before (numbers before)
 
-records_step : (event : BookEvent) (reply : BookReply) (before : List Answered) (given : ℕ) → Follows event reply given → AllByRecursion (λ n. n ≤ given) (numbers before) → records_of (record { event = event; reply = reply } ∷ before) (numbers_after event reply before (numbers before)) ≡ records_after event reply (records_of before (numbers before))
-records_step (Open word now) (Opened conn generation key) before given is below = opened_more word now conn generation given key before (numbers before) is below
-records_step (Open word now) (Limit count most) before given is below = stay (Open word now) (Limit count most) before
-records_step (Open word now) (Resumed conn generation) before given is below = stay (Open word now) (Resumed conn generation) before
-records_step (Open word now) KeyUnknown before given is below = stay (Open word now) KeyUnknown before
-records_step (Open word now) Go before given is below = stay (Open word now) Go before
-records_step (Open word now) (Known outcome) before given is below = stay (Open word now) (Known outcome) before
-records_step (Open word now) (SerialGap got expected) before given is below = stay (Open word now) (SerialGap got expected) before
-records_step (Open word now) (SerialOld got expected) before given is below = stay (Open word now) (SerialOld got expected) before
-records_step (Open word now) (Superseded newer) before given is below = stay (Open word now) (Superseded newer) before
-records_step (Open word now) NoRecord before given is below = stay (Open word now) NoRecord before
-records_step (Open word now) Done before given is below = stay (Open word now) Done before
-records_step (Open word now) (Expired conns) before given is below = stay (Open word now) (Expired conns) before
-records_step (Resume key now) reply before given is below = stay (Resume key now) reply before
-records_step (Begin conn generation serial) reply before given is below = stay (Begin conn generation serial) reply before
-records_step (End conn generation serial outcome) reply before given is below = stay (End conn generation serial outcome) reply before
-records_step (Lost conn generation now) reply before given is below = stay (Lost conn generation now) reply before
-records_step (Close conn generation) reply before given is below = stay (Close conn generation) reply before
-records_step (Expire now) reply before given is below = expired_same now reply before (numbers_after (Expire now) reply before (numbers before)) ∙ kept now before (numbers before)
+records_step : (event : BookEvent) (reply : BookReply) (before : List Answered) (last : ℕ) → Follows event reply last → AllByRecursion (λ n. n ≤ last) (numbers before) → records_of (record { event = event; reply = reply } ∷ before) (numbers_after event reply before (numbers before)) ≡ records_after event reply (records_of before (numbers before))
+records_step (Open word now) (Opened conn generation key) before last is below = opened_more word now conn generation last key before (numbers before) is below
+records_step (Open word now) reply before last is below = stay (Open word now) reply before
+records_step (Expire now) reply before last is below = expired_same now reply before (numbers_after (Expire now) reply before (numbers before)) ∙ kept now before (numbers before)
+records_step event reply before last is below = stay event reply before
 
 last_by : (after : ℕ) (b : Bool) (a : Answered) (s : List Answered) → after + length (cond b (a ∷ s) s) ≡ cond b (after + length s + 1) (after + length s)
 last_by after true a s = omega arith
@@ -139,25 +125,11 @@ all_kept : (k : ℕ) (test : ℕ → Bool) (ns : List ℕ) → AllByRecursion (�
 all_kept k test [] all = tt
 all_kept k test (n ∷ ns) all = all_kept_by k n ns (filter test ns) (test n) all.0 (all_kept k test ns all.1)
 
-below_step : (event : BookEvent) (reply : BookReply) (before : List Answered) (given more : ℕ) → Follows event reply given → (is_opened reply ≡ true → more ≡ given + 1) → AllByRecursion (λ n. n ≤ more) (numbers before) → AllByRecursion (λ n. n ≤ more) (numbers_after event reply before (numbers before))
-below_step (Open word now) (Opened conn generation key) before given more is up all = all_more more conn (numbers before) (omega (arith, up refl, is)) all
-below_step (Open word now) (Limit count most) before given more is up all = all
-below_step (Open word now) (Resumed conn generation) before given more is up all = all
-below_step (Open word now) KeyUnknown before given more is up all = all
-below_step (Open word now) Go before given more is up all = all
-below_step (Open word now) (Known outcome) before given more is up all = all
-below_step (Open word now) (SerialGap got expected) before given more is up all = all
-below_step (Open word now) (SerialOld got expected) before given more is up all = all
-below_step (Open word now) (Superseded newer) before given more is up all = all
-below_step (Open word now) NoRecord before given more is up all = all
-below_step (Open word now) Done before given more is up all = all
-below_step (Open word now) (Expired conns) before given more is up all = all
-below_step (Resume key now) reply before given more is up all = all
-below_step (Begin conn generation serial) reply before given more is up all = all
-below_step (End conn generation serial outcome) reply before given more is up all = all
-below_step (Lost conn generation now) reply before given more is up all = all
-below_step (Close conn generation) reply before given more is up all = all
-below_step (Expire now) reply before given more is up all = all_kept more (λ n. not (is_over now (record_of n before))) (numbers before) all
+below_step : (event : BookEvent) (reply : BookReply) (before : List Answered) (last more : ℕ) → Follows event reply last → (is_opened reply ≡ true → more ≡ last + 1) → AllByRecursion (λ n. n ≤ more) (numbers before) → AllByRecursion (λ n. n ≤ more) (numbers_after event reply before (numbers before))
+below_step (Open word now) (Opened conn generation key) before last more is up all = all_more more conn (numbers before) (omega (arith, up refl, is)) all
+below_step (Open word now) reply before last more is up all = all
+below_step (Expire now) reply before last more is up all = all_kept more (λ n. not (is_over now (record_of n before))) (numbers before) all
+below_step event reply before last more is up all = all
 
 follows_by : (word now last count given : ℕ) (b : Bool) → Follows (Open word now) (if b then Limit count given else opened_as (last + 1) word) last
 follows_by word now last count given true = tt
@@ -194,7 +166,7 @@ book_step range past event =
 one_more : (range : NumberRange) (past : List BookEvent) (event : BookEvent) → book_after range (past ++ event ∷ []) ≡ after (book_after range past) event
 one_more range past event = ap (λ (events : List BookEvent). book_of range (decided range events)) (reverse-append past (event ∷ [])) ∙ book_step range (reverse past) event
 
--- a book that stands for a history stands for it with one more event behind it
+-- a book that stands for a history stands for it with one more event after it
 pub stands_more : (old new : Book) (past : List BookEvent) (event : BookEvent) → old ≡ book_after old.range past → new ≡ after old event → new ≡ book_after new.range (past ++ event ∷ [])
 stands_more old new past event stands is =
     let same : new.range ≡ old.range = ap (λ (b : Book). b.range) is in

@@ -32,13 +32,13 @@ opened_new word now book r es h made is =
     ap (λ (xs : List (ℕ × Record)). record book { last_given = book.last_given + 1; records = xs }) (is ∙ ap (λ (x : Record). book.records ++ (book.last_given + 1, x) ∷ []) made)
     ∙ ap (λ (told : BookReply). record book { last_given = if is_opened told then book.last_given + 1 else book.last_given; records = records_after (Open word now) told book.records }) (sym (opened_by word book false h))
 
-below_by : (given : ℕ) (e : ℕ × Record) (es : List (ℕ × Record)) (b : Bool) → e.0 ≤ given → AllByRecursion (λ e. e.0 ≤ given) es → AllByRecursion (λ e. e.0 ≤ given) (cond b (e ∷ es) es)
-below_by given e es true here rest = (here, rest)
-below_by given e es false here rest = rest
+below_by : (last : ℕ) (e : ℕ × Record) (es : List (ℕ × Record)) (b : Bool) → e.0 ≤ last → AllByRecursion (λ e. e.0 ≤ last) es → AllByRecursion (λ e. e.0 ≤ last) (cond b (e ∷ es) es)
+below_by last e es true here rest = (here, rest)
+below_by last e es false here rest = rest
 
-below_kept : (now given : ℕ) (es : List (ℕ × Record)) → AllByRecursion (λ e. e.0 ≤ given) es → AllByRecursion (λ e. e.0 ≤ given) (filter (λ e. not (is_over now e.1)) es)
-below_kept now given [] all = tt
-below_kept now given (e ∷ es) all = below_by given e _ (not (is_over now e.1)) all.0 (below_kept now given es all.1)
+below_kept : (now last : ℕ) (es : List (ℕ × Record)) → AllByRecursion (λ e. e.0 ≤ last) es → AllByRecursion (λ e. e.0 ≤ last) (filter (λ e. not (is_over now e.1)) es)
+below_kept now last [] all = tt
+below_kept now last (e ∷ es) all = below_by last e _ (not (is_over now e.1)) all.0 (below_kept now last es all.1)
 
 keyed_by : (e : ℕ × Record) (es : List (ℕ × Record)) (b : Bool) → IsNumbered e.0 e.1.key → AllByRecursion (λ e. IsNumbered e.0 e.1.key) es → AllByRecursion (λ e. IsNumbered e.0 e.1.key) (cond b (e ∷ es) es)
 keyed_by e es true here rest = (here, rest)
@@ -48,8 +48,8 @@ keyed_kept : (now : ℕ) (es : List (ℕ × Record)) → AllByRecursion (λ e. I
 keyed_kept now [] all = tt
 keyed_kept now (e ∷ es) all = keyed_by e _ (not (is_over now e.1)) all.0 (keyed_kept now es all.1)
 
-pub sound_kept : (now given : ℕ) (es : List (ℕ × Record)) → IsSound given es → IsSound given (filter (λ e. not (is_over now e.1)) es)
-sound_kept now given es sound = record { below = below_kept now given es sound.below; keyed = keyed_kept now es sound.keyed }
+pub sound_kept : (now last : ℕ) (es : List (ℕ × Record)) → IsSound last es → IsSound last (filter (λ e. not (is_over now e.1)) es)
+sound_kept now last es sound = record { below = below_kept now last es sound.below; keyed = keyed_kept now es sound.keyed }
 
 pub expired_same : (now : ℕ) (book : Book) (es : List (ℕ × Record)) → es ≡ filter (λ e. not (is_over now e.1)) book.records → record book { records = es } ≡ after book (Expire now)
 expired_same now book es is = ap (λ (xs : List (ℕ × Record)). record book { records = xs }) is

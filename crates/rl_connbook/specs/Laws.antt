@@ -21,7 +21,7 @@ SomeOf P (x ∷ xs) = P x ⊎ SomeOf P xs
 abbrev pub IsIn : ℕ → List ℕ → Type 0
 IsIn conn ns = SomeOf (λ n. n ≡ conn) ns
 
--- each number is below those behind it
+-- each number is below those after it
 abbrev pub AreRising : List ℕ → Type 0
 AreRising [] = ⊤
 AreRising (n ∷ ns) = AllByRecursion (λ m. n < m) ns × AreRising ns

@@ -170,7 +170,7 @@ impl Record {
         Ok(())
     }
 
-    // Keeps an outcome behind the others, and drops the oldest where they are too many.
+    // Keeps an outcome after the others, and drops the oldest where they are too many.
     fn keep(&mut self, serial: u64, outcome: Outcome) -> Result<(), NoMemory>
         requires { serial ≤ MAX_MESSAGE_SERIAL }
         ensures ok { OnOk result (self.new ≡ record self.old { expected = serial + 1; outcomes = latest (self.old.outcomes ++ (serial, outcome) ∷ []) }) }
