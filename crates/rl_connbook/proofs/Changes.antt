@@ -17,7 +17,7 @@ use Rattle.rl_connbook.specs.declared.record.Record.{Record}
 use Rattle.rl_connbook.specs.Records.{is_of, key_after}
 use Rattle.rl_connbook.specs.Book.{Book, is_opened, told, record_at, at_record, begun, known, kept_outcome}
 use Rattle.rl_connbook.specs.Steps.{after, record_after, entry_after, records_after}
-use Rattle.rl_connbook.specs.Sound.{IsSound, number_in}
+use Rattle.rl_connbook.specs.Sound.{IsSound, IsNumbered}
 
 at_is : (conn q : ℕ) → is_at (nat_cmp conn) q ≡ (conn == q)
 at_is conn q = grind (arith, nat_tests)
@@ -74,16 +74,16 @@ pub record IsPlain (event : BookEvent) (reply : BookReply) (conn : ℕ) : Type 0
   pub opens : is_opened reply ≡ false
   pub stays : (es : List (ℕ × Record)) → records_after event reply es ≡ map (entry_after event reply) es
 
-after_plain : (event : BookEvent) (reply : BookReply) (book : Book) → told book event ≡ reply → is_opened reply ≡ false → ((es : List (ℕ × Record)) → records_after event reply es ≡ map (entry_after event reply) es) → after book event ≡ record { given = book.given; records = map (entry_after event reply) book.records }
+after_plain : (event : BookEvent) (reply : BookReply) (book : Book) → told book event ≡ reply → is_opened reply ≡ false → ((es : List (ℕ × Record)) → records_after event reply es ≡ map (entry_after event reply) es) → after book event ≡ record book { records = map (entry_after event reply) book.records }
 after_plain event reply book is opens stays =
-    ap (λ (told : BookReply). record { given = if is_opened told then book.given + 1 else book.given; records = records_after event told book.records }) is
-    ∙ ap (λ (b : Bool). record { given = if b then book.given + 1 else book.given; records = records_after event reply book.records }) opens
-    ∙ ap (λ (es : List (ℕ × Record)). record { given = book.given; records = es }) (stays book.records)
+    ap (λ (told : BookReply). record book { last_given = if is_opened told then book.last_given + 1 else book.last_given; records = records_after event told book.records }) is
+    ∙ ap (λ (b : Bool). record book { last_given = if b then book.last_given + 1 else book.last_given; records = records_after event reply book.records }) opens
+    ∙ ap (λ (es : List (ℕ × Record)). record book { records = es }) (stays book.records)
 
 -- one record is changed
-pub changed : (event : BookEvent) (reply : BookReply) (conn : ℕ) (book : Book) (r : Record) → IsPlain event reply conn → told book event ≡ reply → IsStrictlySortedBy nat_cmp (keys_of book.records) → record_at conn book ≡ Some r → record { given = book.given; records = set_at conn book.records (record_after event reply r) } ≡ after book event
+pub changed : (event : BookEvent) (reply : BookReply) (conn : ℕ) (book : Book) (r : Record) → IsPlain event reply conn → told book event ≡ reply → IsStrictlySortedBy nat_cmp (keys_of book.records) → record_at conn book ≡ Some r → record book { records = set_at conn book.records (record_after event reply r) } ≡ after book event
 changed event reply conn book r plain is rises found =
-    ap (λ (es : List (ℕ × Record)). record { given = book.given; records = es }) (set_is_mapped event reply conn r book.records plain.of rises found)
+    ap (λ (es : List (ℕ × Record)). record book { records = es }) (set_is_mapped event reply conn r book.records plain.of rises found)
     ∙ sym (after_plain event reply book is plain.opens plain.stays)
 
 same_by : (b : Bool) (n : ℕ) (x y : Record) (es : List (ℕ × Record)) → x ≡ y → (n, cond b x y) ∷ es ≡ (n, y) ∷ es
@@ -99,41 +99,41 @@ all_same event reply (e ∷ es) same =
 -- no record is changed
 pub unchanged : (event : BookEvent) (reply : BookReply) (book : Book) → told book event ≡ reply → is_opened reply ≡ false → ((es : List (ℕ × Record)) → records_after event reply es ≡ map (entry_after event reply) es) → ((r : Record) → record_after event reply r ≡ r) → book ≡ after book event
 unchanged event reply book is opens stays same =
-    ap (λ (es : List (ℕ × Record)). record { given = book.given; records = es }) (sym (all_same event reply book.records same))
+    ap (λ (es : List (ℕ × Record)). record book { records = es }) (sym (all_same event reply book.records same))
     ∙ sym (after_plain event reply book is opens stays)
 
 -- SOUNDNESS
 
-below_by : (given conn : ℕ) (r : Record) (e : ℕ × Record) (es : List (ℕ × Record)) (b : Bool) → e.0 ≤ given → AllByRecursion (λ e. e.0 ≤ given) es → AllByRecursion (λ e. e.0 ≤ given) (set_at conn es r) → AllByRecursion (λ e. e.0 ≤ given) (cond b ((e.0, r) ∷ es) (e ∷ set_at conn es r))
-below_by given conn r e es true here all rest = (here, all)
-below_by given conn r e es false here all rest = (here, rest)
+below_by : (last conn : ℕ) (r : Record) (e : ℕ × Record) (es : List (ℕ × Record)) (b : Bool) → e.0 ≤ last → AllByRecursion (λ e. e.0 ≤ last) es → AllByRecursion (λ e. e.0 ≤ last) (set_at conn es r) → AllByRecursion (λ e. e.0 ≤ last) (cond b ((e.0, r) ∷ es) (e ∷ set_at conn es r))
+below_by last conn r e es true here all rest = (here, all)
+below_by last conn r e es false here all rest = (here, rest)
 
-below_set : (given conn : ℕ) (r : Record) (es : List (ℕ × Record)) → AllByRecursion (λ e. e.0 ≤ given) es → AllByRecursion (λ e. e.0 ≤ given) (set_at conn es r)
-below_set given conn r [] all = tt
-below_set given conn r (e ∷ es) all = below_by given conn r e es (is_at (nat_cmp conn) e.0) all.0 all.1 (below_set given conn r es all.1)
+below_set : (last conn : ℕ) (r : Record) (es : List (ℕ × Record)) → AllByRecursion (λ e. e.0 ≤ last) es → AllByRecursion (λ e. e.0 ≤ last) (set_at conn es r)
+below_set last conn r [] all = tt
+below_set last conn r (e ∷ es) all = below_by last conn r e es (is_at (nat_cmp conn) e.0) all.0 all.1 (below_set last conn r es all.1)
 
-keyed_by : (conn : ℕ) (old new : Record) (e : ℕ × Record) (es : List (ℕ × Record)) (b : Bool) → new.key ≡ old.key → cond b (Some e.1) (lookup (is_at (nat_cmp conn)) es) ≡ Some old → number_in e.1.key ≡ e.0 → AllByRecursion (λ e. number_in e.1.key ≡ e.0) es → (lookup (is_at (nat_cmp conn)) es ≡ Some old → AllByRecursion (λ e. number_in e.1.key ≡ e.0) (set_at conn es new)) → AllByRecursion (λ e. number_in e.1.key ≡ e.0) (cond b ((e.0, new) ∷ es) (e ∷ set_at conn es new))
+keyed_by : (conn : ℕ) (old new : Record) (e : ℕ × Record) (es : List (ℕ × Record)) (b : Bool) → new.key ≡ old.key → cond b (Some e.1) (lookup (is_at (nat_cmp conn)) es) ≡ Some old → IsNumbered e.0 e.1.key → AllByRecursion (λ e. IsNumbered e.0 e.1.key) es → (lookup (is_at (nat_cmp conn)) es ≡ Some old → AllByRecursion (λ e. IsNumbered e.0 e.1.key) (set_at conn es new)) → AllByRecursion (λ e. IsNumbered e.0 e.1.key) (cond b ((e.0, new) ∷ es) (e ∷ set_at conn es new))
 keyed_by conn old new e es true key found here all rest =
     let value : e.1 ≡ old = cc in
-    (ap number_in (key ∙ ap (λ (x : Record). x.key) (sym value)) ∙ here, all)
+    (subst (IsNumbered e.0) (ap (λ (x : Record). x.key) value ∙ sym key) here, all)
 keyed_by conn old new e es false key found here all rest = (here, rest found)
 
-keyed_set : (conn : ℕ) (old new : Record) (es : List (ℕ × Record)) → new.key ≡ old.key → lookup (is_at (nat_cmp conn)) es ≡ Some old → AllByRecursion (λ e. number_in e.1.key ≡ e.0) es → AllByRecursion (λ e. number_in e.1.key ≡ e.0) (set_at conn es new)
+keyed_set : (conn : ℕ) (old new : Record) (es : List (ℕ × Record)) → new.key ≡ old.key → lookup (is_at (nat_cmp conn)) es ≡ Some old → AllByRecursion (λ e. IsNumbered e.0 e.1.key) es → AllByRecursion (λ e. IsNumbered e.0 e.1.key) (set_at conn es new)
 keyed_set conn old new [] key found all = tt
 keyed_set conn old new (e ∷ es) key found all = keyed_by conn old new e es (is_at (nat_cmp conn) e.0) key found all.0 all.1 (λ later. keyed_set conn old new es key later all.1)
 
-pub sound_set : (given conn : ℕ) (old new : Record) (es : List (ℕ × Record)) → new.key ≡ old.key → lookup (is_at (nat_cmp conn)) es ≡ Some old → IsSound given es → IsSound given (set_at conn es new)
-sound_set given conn old new es key found sound = record {
-  below = below_set given conn new es sound.below;
+pub sound_set : (last conn : ℕ) (old new : Record) (es : List (ℕ × Record)) → new.key ≡ old.key → lookup (is_at (nat_cmp conn)) es ≡ Some old → IsSound last es → IsSound last (set_at conn es new)
+sound_set last conn old new es key found sound = record {
+  below = below_set last conn new es sound.below;
   keyed = keyed_set conn old new es key found sound.keyed;
 }
 
 -- AS CALLS USE IT
 
 -- one record was replaced by what it is after the event
-pub written : (event : BookEvent) (reply : BookReply) (conn : ℕ) (book : Book) (r new : Record) (es : List (ℕ × Record)) → IsPlain event reply conn → told book event ≡ reply → IsStrictlySortedBy nat_cmp (keys_of book.records) → record_at conn book ≡ Some r → new ≡ record_after event reply r → es ≡ set_at conn book.records new → record { given = book.given; records = es } ≡ after book event
+pub written : (event : BookEvent) (reply : BookReply) (conn : ℕ) (book : Book) (r new : Record) (es : List (ℕ × Record)) → IsPlain event reply conn → told book event ≡ reply → IsStrictlySortedBy nat_cmp (keys_of book.records) → record_at conn book ≡ Some r → new ≡ record_after event reply r → es ≡ set_at conn book.records new → record book { records = es } ≡ after book event
 written event reply conn book r new es plain is rises found made set =
-    ap (λ (xs : List (ℕ × Record)). record { given = book.given; records = xs }) (set ∙ ap (set_at conn book.records) made)
+    ap (λ (xs : List (ℕ × Record)). record book { records = xs }) (set ∙ ap (set_at conn book.records) made)
     ∙ changed event reply conn book r plain is rises found
 
 key_kept : (reply : BookReply) (key : List ℕ) → is_opened reply ≡ false → key_after reply key ≡ key
@@ -150,10 +150,10 @@ key_kept NoRecord key h = refl
 key_kept Done key h = refl
 key_kept (Expired conns) key h = refl
 
-pub sound_after : (event : BookEvent) (reply : BookReply) (conn given : ℕ) (r new : Record) (old es : List (ℕ × Record)) → is_opened reply ≡ false → lookup (is_at (nat_cmp conn)) old ≡ Some r → new ≡ record_after event reply r → es ≡ set_at conn old new → IsSound given old → IsSound given es
-sound_after event reply conn given r new old es opens found made set sound =
+pub sound_after : (event : BookEvent) (reply : BookReply) (conn last : ℕ) (r new : Record) (old es : List (ℕ × Record)) → is_opened reply ≡ false → lookup (is_at (nat_cmp conn)) old ≡ Some r → new ≡ record_after event reply r → es ≡ set_at conn old new → IsSound last old → IsSound last es
+sound_after event reply conn last r new old es opens found made set sound =
     let key : new.key ≡ r.key = ap (λ (x : Record). x.key) made ∙ key_kept reply r.key opens in
-    subst (IsSound given) (sym set) (sound_set given conn r new old key found sound)
+    subst (IsSound last) (sym set) (sound_set last conn r new old key found sound)
 
 pub at_none : (generation : ℕ) (reply : Record → BookReply) (found : Option Record) → found ≡ None → at_record generation reply found ≡ NoRecord
 at_none generation reply found h = ap (at_record generation reply) h
@@ -192,7 +192,7 @@ none_of event reply (e ∷ es) of =
 -- the event is of no connection
 pub untouched : (event : BookEvent) (reply : BookReply) (book : Book) → told book event ≡ reply → is_opened reply ≡ false → ((es : List (ℕ × Record)) → records_after event reply es ≡ map (entry_after event reply) es) → ((n : ℕ) → is_of n event reply ≡ false) → book ≡ after book event
 untouched event reply book is opens stays of =
-    ap (λ (es : List (ℕ × Record)). record { given = book.given; records = es }) (sym (none_of event reply book.records of))
+    ap (λ (es : List (ℕ × Record)). record book { records = es }) (sym (none_of event reply book.records of))
     ∙ sym (after_plain event reply book is opens stays)
 
 -- what was lent came back as it was

@@ -9,4 +9,6 @@ replies_hold = record {
   came_back = refl;
   in_flight = refl;
   left_behind = refl;
+  range_begins = refl;
+  range_ends = refl;
 }

@@ -1,5 +1,5 @@
--- A record found by the number in its key, and a new one behind the others.
-use Rattle.std.proofs.Common.{◌≡◌, ℕ, zero, suc, ◌+◌, ◌*◌, ◌/◌, ◌%◌, ◌^◌, ◌<◌, ◌≤◌, Bool, true, false, cond, List, [], ◌∷◌, ◌++◌, length, take, map, refl, ap, sym, subst, ◌∙◌, arith}
+-- A record found by the number in its key, and a new one after the others.
+use Rattle.std.proofs.Common.{◌≡◌, ℕ, ◌+◌, ◌^◌, ◌<◌, ◌≤◌, Bool, true, false, cond, List, [], ◌∷◌, ◌++◌, length, take, map, refl, ap, sym, subst, ◌∙◌, arith}
 use Rattle.std.specs.Prelude.{◌&&◌, Option, Some, None, if◌then◌else◌, find, bytes_eq}
 use Rattle.std.specs.List.{AllByRecursion, filter}
 use Rattle.std.specs.List.Sorted.{IsStrictlySortedBy}
@@ -10,16 +10,13 @@ use Rattle.std.specs.BTreeMap.{is_at, insert_entry}
 use Rattle.std.specs.Cmp.Lexicographic.{bytes_decides}
 use Rattle.std.proofs.lemmas.Bool.Decides.{nat_tests}
 use Rattle.std.proofs.lemmas.List.{take-append-le, take_all}
-use Rattle.std.proofs.lemmas.List.Sums.{fold_push}
-use Rattle.std.proofs.lemmas.Nat.{div-add-mod', row_below_turned}
-use Rattle.std.proofs.Math.Nat.{mod-lt, mod-eq_of_lt, pow-suc, pow-zero}
-use Rattle.rl_base.specs.Digits.{fixed_text, digit_glyph}
+use Rattle.rl_base.specs.Digits.{fixed_text}
 use Rattle.rl_base.proofs.Digits.{fixed_lengths}
 use Rattle.rl_types.specs.declared.book.BookReply.TheVariants.{Resumed, KeyUnknown}
 use Rattle.rl_connbook.specs.declared.record.Record.{Record}
 use Rattle.rl_connbook.specs.Records.{is_open, raised}
 use Rattle.rl_connbook.specs.Book.{has_key, may_resume, resumed, is_over, key_text}
-use Rattle.rl_connbook.specs.Sound.{IsSound, number_in, digits_value, digit_value, digit_step}
+use Rattle.rl_connbook.specs.Sound.{IsSound, IsNumbered}
 
 -- BY KEY
 
@@ -43,26 +40,26 @@ abbrev pub finds : ℕ → List ℕ → Option Record → Option (ℕ × Record)
 finds n key None = None
 finds n key (Some r) = if has_key key (n, r) then Some (n, r) else None
 
-number_same : (key : List ℕ) (e : ℕ × Record) → number_in e.1.key ≡ e.0 → has_key key e ≡ true → number_in key ≡ e.0
-number_same key e keyed h = ap number_in (key_same key e h) ∙ keyed
+number_same : (key : List ℕ) (e : ℕ × Record) → IsNumbered e.0 e.1.key → has_key key e ≡ true → IsNumbered e.0 key
+number_same key e keyed h = subst (IsNumbered e.0) (sym (key_same key e h)) keyed
 
 none_by : (key : List ℕ) (e : ℕ × Record) (found : Option (ℕ × Record)) (b : Bool) → has_key key e ≡ b → (b ≡ true → ⊥) → found ≡ None → cond b (Some e) found ≡ None
 none_by key e found true is no_way rest = absurd (no_way refl)
 none_by key e found false is no_way rest = rest
 
-none_later : (n : ℕ) (key : List ℕ) (es : List (ℕ × Record)) → n ≡ number_in key → AllByRecursion (λ e. number_in e.1.key ≡ e.0) es → AllByRecursion (λ q. nat_cmp n q ≡ Less) (keys_of es) → find (has_key key) es ≡ None
+none_later : (n : ℕ) (key : List ℕ) (es : List (ℕ × Record)) → ((m : ℕ) → IsNumbered m key → n ≡ m) → AllByRecursion (λ e. IsNumbered e.0 e.1.key) es → AllByRecursion (λ q. nat_cmp n q ≡ Less) (keys_of es) → find (has_key key) es ≡ None
 none_later n key [] is keyed above = refl
 none_later n key (e ∷ es) is keyed above =
-    none_by key e (find (has_key key) es) (has_key key e) refl (λ h. less_not n (subst (λ (q : ℕ). nat_cmp n q ≡ Less) (sym (is ∙ number_same key e keyed.0 h)) above.0)) (none_later n key es is keyed.1 above.1)
+    none_by key e (find (has_key key) es) (has_key key e) refl (λ h. less_not n (subst (λ (q : ℕ). nat_cmp n q ≡ Less) (sym (is e.0 (number_same key e keyed.0 h))) above.0)) (none_later n key es is keyed.1 above.1)
 
 pair_same : (n : ℕ) (e : ℕ × Record) → e.0 ≡ n → Some e ≡ Some (n, e.1)
 pair_same n e h = ap (λ (q : ℕ). Some (q, e.1)) h
 
-find_by : (n : ℕ) (key : List ℕ) (e : ℕ × Record) (es : List (ℕ × Record)) (b c : Bool) → has_key key e ≡ b → is_at (nat_cmp n) e.0 ≡ c → n ≡ number_in key → number_in e.1.key ≡ e.0 → (c ≡ true → find (has_key key) es ≡ None) → find (has_key key) es ≡ finds n key (lookup (is_at (nat_cmp n)) es) → cond b (Some e) (find (has_key key) es) ≡ finds n key (cond c (Some e.1) (lookup (is_at (nat_cmp n)) es))
+find_by : (n : ℕ) (key : List ℕ) (e : ℕ × Record) (es : List (ℕ × Record)) (b c : Bool) → has_key key e ≡ b → is_at (nat_cmp n) e.0 ≡ c → ((m : ℕ) → IsNumbered m key → n ≡ m) → IsNumbered e.0 e.1.key → (c ≡ true → find (has_key key) es ≡ None) → find (has_key key) es ≡ finds n key (lookup (is_at (nat_cmp n)) es) → cond b (Some e) (find (has_key key) es) ≡ finds n key (cond c (Some e.1) (lookup (is_at (nat_cmp n)) es))
 find_by n key e es true true has at is keyed later rest =
     pair_same n e (same_number n e.0 at) ∙ sym (ap (λ (b : Bool). if b then Some (n, e.1) else None) has)
 find_by n key e es true false has at is keyed later rest =
-    let number : e.0 ≡ n = sym (is ∙ number_same key e keyed has) in
+    let number : e.0 ≡ n = sym (is e.0 (number_same key e keyed has)) in
     let yes_at : is_at (nat_cmp n) e.0 ≡ true = rw number (at_self n) in
     absurd (grind (arith, nat_tests, yes_at, at))
 find_by n key e es false true has at is keyed later rest =
@@ -72,7 +69,7 @@ find_by n key e es false false has at is keyed later rest = rest
 above_from : (n : ℕ) (e : ℕ × Record) (es : List (ℕ × Record)) → is_at (nat_cmp n) e.0 ≡ true → AllByRecursion (λ q. nat_cmp e.0 q ≡ Less) (keys_of es) → AllByRecursion (λ q. nat_cmp n q ≡ Less) (keys_of es)
 above_from n e es at above = subst (λ (q : ℕ). AllByRecursion (λ p. nat_cmp q p ≡ Less) (keys_of es)) (same_number n e.0 at) above
 
-pub find_is : (n : ℕ) (key : List ℕ) (es : List (ℕ × Record)) → n ≡ number_in key → AllByRecursion (λ e. number_in e.1.key ≡ e.0) es → IsStrictlySortedBy nat_cmp (keys_of es) → find (has_key key) es ≡ finds n key (lookup (is_at (nat_cmp n)) es)
+pub find_is : (n : ℕ) (key : List ℕ) (es : List (ℕ × Record)) → ((m : ℕ) → IsNumbered m key → n ≡ m) → AllByRecursion (λ e. IsNumbered e.0 e.1.key) es → IsStrictlySortedBy nat_cmp (keys_of es) → find (has_key key) es ≡ finds n key (lookup (is_at (nat_cmp n)) es)
 unfolding IsStrictlySortedBy
 find_is n key [] is keyed rises = refl
 find_is n key (e ∷ es) is keyed rises =
@@ -83,10 +80,10 @@ resumed_by n r true b h = ap (λ (c : Bool). if c then Resumed n (raised r.gener
 resumed_by n r false b h = refl
 
 -- what a Resume is told, by the record at the number in the key
-pub resumed_none : (n : ℕ) (key : List ℕ) (es : List (ℕ × Record)) → n ≡ number_in key → AllByRecursion (λ e. number_in e.1.key ≡ e.0) es → IsStrictlySortedBy nat_cmp (keys_of es) → lookup (is_at (nat_cmp n)) es ≡ None → resumed (find (has_key key) es) ≡ KeyUnknown
+pub resumed_none : (n : ℕ) (key : List ℕ) (es : List (ℕ × Record)) → ((m : ℕ) → IsNumbered m key → n ≡ m) → AllByRecursion (λ e. IsNumbered e.0 e.1.key) es → IsStrictlySortedBy nat_cmp (keys_of es) → lookup (is_at (nat_cmp n)) es ≡ None → resumed (find (has_key key) es) ≡ KeyUnknown
 resumed_none n key es is keyed rises none = ap resumed (find_is n key es is keyed rises ∙ ap (finds n key) none)
 
-pub resumed_one : (n : ℕ) (key : List ℕ) (r : Record) (es : List (ℕ × Record)) (may : Bool) → n ≡ number_in key → AllByRecursion (λ e. number_in e.1.key ≡ e.0) es → IsStrictlySortedBy nat_cmp (keys_of es) → lookup (is_at (nat_cmp n)) es ≡ Some r → (has_key key (n, r) && may_resume r) ≡ may → resumed (find (has_key key) es) ≡ (if may then Resumed n (raised r.generation) else KeyUnknown)
+pub resumed_one : (n : ℕ) (key : List ℕ) (r : Record) (es : List (ℕ × Record)) (may : Bool) → ((m : ℕ) → IsNumbered m key → n ≡ m) → AllByRecursion (λ e. IsNumbered e.0 e.1.key) es → IsStrictlySortedBy nat_cmp (keys_of es) → lookup (is_at (nat_cmp n)) es ≡ Some r → (has_key key (n, r) && may_resume r) ≡ may → resumed (find (has_key key) es) ≡ (if may then Resumed n (raised r.generation) else KeyUnknown)
 resumed_one n key r es may is keyed rises found h =
     ap resumed (find_is n key es is keyed rises ∙ ap (finds n key) found)
     ∙ resumed_by n r (has_key key (n, r)) (may_resume r) refl
@@ -94,54 +91,34 @@ resumed_one n key r es may is keyed rises found h =
 
 -- A NEW ONE
 
-greater : (k n given : ℕ) → n ≤ given → k ≡ given + 1 → nat_cmp k n ≡ Greater
-greater k n given h is = grind (arith, nat_tests)
+greater : (k n last : ℕ) → n ≤ last → k ≡ last + 1 → nat_cmp k n ≡ Greater
+greater k n last h is = grind (arith, nat_tests)
 
-pub inserted_last : (k given : ℕ) (r : Record) (es : List (ℕ × Record)) → k ≡ given + 1 → AllByRecursion (λ e. e.0 ≤ given) es → insert_entry nat_cmp es k r ≡ es ++ (k, r) ∷ []
-inserted_last k given r [] is below = refl
-inserted_last k given r (e ∷ es) is below = rw (greater k e.0 given below.0 is) (ap (λ (xs : List (ℕ × Record)). e ∷ xs) (inserted_last k given r es is below.1))
+pub inserted_last : (k last : ℕ) (r : Record) (es : List (ℕ × Record)) → k ≡ last + 1 → AllByRecursion (λ e. e.0 ≤ last) es → insert_entry nat_cmp es k r ≡ es ++ (k, r) ∷ []
+inserted_last k last r [] is below = refl
+inserted_last k last r (e ∷ es) is below = rw (greater k e.0 last below.0 is) (ap (λ (xs : List (ℕ × Record)). e ∷ xs) (inserted_last k last r es is below.1))
 
-below_more : (k given : ℕ) (r : Record) (es : List (ℕ × Record)) → k ≡ given + 1 → AllByRecursion (λ e. e.0 ≤ given) es → AllByRecursion (λ e. e.0 ≤ k) (es ++ (k, r) ∷ [])
-below_more k given r [] is below = (omega arith, tt)
-below_more k given r (e ∷ es) is below = (omega (arith, below.0, is), below_more k given r es is below.1)
+below_more : (k last : ℕ) (r : Record) (es : List (ℕ × Record)) → k ≡ last + 1 → AllByRecursion (λ e. e.0 ≤ last) es → AllByRecursion (λ e. e.0 ≤ k) (es ++ (k, r) ∷ [])
+below_more k last r [] is below = (omega arith, tt)
+below_more k last r (e ∷ es) is below = (omega (arith, below.0, is), below_more k last r es is below.1)
 
-keyed_more : (k : ℕ) (r : Record) (es : List (ℕ × Record)) → number_in r.key ≡ k → AllByRecursion (λ e. number_in e.1.key ≡ e.0) es → AllByRecursion (λ e. number_in e.1.key ≡ e.0) (es ++ (k, r) ∷ [])
+keyed_more : (k : ℕ) (r : Record) (es : List (ℕ × Record)) → IsNumbered k r.key → AllByRecursion (λ e. IsNumbered e.0 e.1.key) es → AllByRecursion (λ e. IsNumbered e.0 e.1.key) (es ++ (k, r) ∷ [])
 keyed_more k r [] is keyed = (is, tt)
 keyed_more k r (e ∷ es) is keyed = (keyed.0, keyed_more k r es is keyed.1)
-
-value_same : (d : ℕ) → d < 16 → digit_value (digit_glyph d) ≡ d
-value_same d h = grind (arith, nat_tests, h)
-
-step_same : (n : ℕ) → n < 2 ^ 32 → digit_step (n / 16) (digit_glyph (n % 16)) ≡ n
-step_same n h =
-    let low : n % 16 < 16 = mod-lt n (omega arith) in
-    let whole : n / 16 * 16 + digit_value (digit_glyph (n % 16)) ≡ n = ap (λ (d : ℕ). n / 16 * 16 + d) (value_same (n % 16) low) ∙ omega (arith, div-add-mod' n 16) in
-    ap (λ (m : ℕ). m % 2 ^ 32) whole ∙ mod-eq_of_lt h
-
-spelled : (k n : ℕ) → n < 16 ^ k → n < 2 ^ 32 → digits_value (fixed_text 16 k n) ≡ n
-spelled zero n small h = omega (arith, small, pow-zero 16)
-spelled (suc k) n small h =
-    let less : n / 16 < 16 ^ k = (row_below_turned n 16 (16 ^ k) 16 (rw (← pow-suc 16 k) small) (omega arith)).1 in
-    fold_push digit_step 0 (fixed_text 16 k (n / 16)) (digit_glyph (n % 16))
-    ∙ ap (λ (m : ℕ). digit_step m (digit_glyph (n % 16))) (spelled k (n / 16) less (omega (arith, h)))
-    ∙ step_same n h
 
 front_taken : (w n : ℕ) (xs ys : List ℕ) → xs ≡ fixed_text 16 w n → take w (xs ++ ys) ≡ xs
 front_taken w n xs ys is =
     let long : length xs ≡ w = fixed_lengths 16 w n xs is in
     take-append-le w xs ys (omega arith) ∙ take_all w xs (omega arith)
 
-number_at : (w n : ℕ) (xs ys : List ℕ) → xs ≡ fixed_text 16 w n → n < 16 ^ w → n < 2 ^ 32 → digits_value (take w (xs ++ ys)) ≡ n
-number_at w n xs ys is small h = ap digits_value (front_taken w n xs ys is ∙ is) ∙ spelled w n small h
-
 -- a new key has its number
-pub number_new : (n word : ℕ) → n < 2 ^ 32 → number_in (key_text n word) ≡ n
-number_new n word h = number_at 8 n (fixed_text 16 8 n) (33 ∷ fixed_text 16 16 word) refl h h
+pub number_new : (n word : ℕ) → n < 2 ^ 32 → IsNumbered n (key_text n word)
+number_new n word h = record { small = h; digits = front_taken 8 n (fixed_text 16 8 n) (33 ∷ fixed_text 16 16 word) refl }
 
-pub sound_more : (k given word : ℕ) (r : Record) (es : List (ℕ × Record)) → k ≡ given + 1 → k < 2 ^ 32 → r.key ≡ key_text k word → IsSound given es → IsSound k (es ++ (k, r) ∷ [])
-sound_more k given word r es is small key sound = record {
-  below = below_more k given r es is sound.below;
-  keyed = keyed_more k r es (ap number_in key ∙ number_new k word small) sound.keyed;
+pub sound_more : (k last word : ℕ) (r : Record) (es : List (ℕ × Record)) → k ≡ last + 1 → k < 2 ^ 32 → r.key ≡ key_text k word → IsSound last es → IsSound k (es ++ (k, r) ∷ [])
+sound_more k last word r es is small key sound = record {
+  below = below_more k last r es is sound.below;
+  keyed = keyed_more k r es (subst (IsNumbered k) (sym key) (number_new k word small)) sound.keyed;
 }
 
 -- THE ONES THAT ARE OVER

@@ -8,3 +8,7 @@ pub mod Shelves
 pub mod Timing
 pub mod Coming
 pub mod Over
+pub mod Each
+pub mod Numbers
+pub mod Outcomes
+pub mod BookLaws

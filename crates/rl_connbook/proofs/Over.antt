@@ -35,8 +35,8 @@ chosen_is now [] = refl
 chosen_is now (e ∷ es) = chosen_by (nat_le (due_at e.1.standing) now) e (filter (λ (d : ℕ × ℕ). nat_le d.1 now) (deadlines_of es)) (filter (λ (e : ℕ × Record). nat_le (due_at e.1.standing) now) es) (chosen_is now es)
 
 -- the deadlines that have come, sorted by number
-pub numbers_sorted : (now given : ℕ) (es : List (ℕ × Record)) (ds : List (ℕ × ℕ)) (found sorted : List ℕ) → IsKept given es ds → found ≡ due now ds → IsPermutation found sorted → IsSorted nat_cmp sorted → sorted ≡ due_numbers now es
-numbers_sorted now given es ds found sorted kept is moved order =
+pub numbers_sorted : (now last : ℕ) (es : List (ℕ × Record)) (ds : List (ℕ × ℕ)) (found sorted : List ℕ) → IsKept last es ds → found ≡ due now ds → IsPermutation found sorted → IsSorted nat_cmp sorted → sorted ≡ due_numbers now es
+numbers_sorted now last es ds found sorted kept is moved order =
     let same = ap keys_of kept.due ∙ keys_timed es in
     due_sorted now ds found sorted (subst (λ (ns : List ℕ). IsStrictlySortedBy nat_cmp ns) (sym same) kept.rises) is moved order
     ∙ ap (chosen now) kept.due

@@ -88,22 +88,22 @@ rises_set : (n : ℕ) (new : Record) (old es : List (ℕ × Record)) → es ≡ 
 rises_set n new old es set rises = subst (λ (ns : List ℕ). IsStrictlySortedBy nat_cmp ns) (sym (ap keys_of set ∙ keys-set_value (is_at (nat_cmp n)) old new)) rises
 
 -- an event left a record as it stands
-pub kept_after : (event : BookEvent) (reply : BookReply) (conn given : ℕ) (r new : Record) (old es : List (ℕ × Record)) (ds : List (ℕ × ℕ)) → is_opened reply ≡ false → standing_after event reply r.standing ≡ r.standing → lookup (is_at (nat_cmp conn)) old ≡ Some r → new ≡ record_after event reply r → es ≡ set_at conn old new → IsKept given old ds → IsKept given es ds
-kept_after event reply conn given r new old es ds opens stands found made set kept = record {
-  sound = sound_after event reply conn given r new old es opens found made set kept.sound;
+pub kept_after : (event : BookEvent) (reply : BookReply) (conn last : ℕ) (r new : Record) (old es : List (ℕ × Record)) (ds : List (ℕ × ℕ)) → is_opened reply ≡ false → standing_after event reply r.standing ≡ r.standing → lookup (is_at (nat_cmp conn)) old ≡ Some r → new ≡ record_after event reply r → es ≡ set_at conn old new → IsKept last old ds → IsKept last es ds
+kept_after event reply conn last r new old es ds opens stands found made set kept = record {
+  sound = sound_after event reply conn last r new old es opens found made set kept.sound;
   rises = rises_set conn new old es set kept.rises;
   due = kept.due ∙ sym (ap deadlines_of set ∙ same_set conn r new old (ap (λ (x : Record). x.standing) made ∙ stands) found);
 }
 
 -- what was lent came back as it was
-pub kept_same : (conn given : ℕ) (r new : Record) (old es : List (ℕ × Record)) (ds : List (ℕ × ℕ)) → lookup (is_at (nat_cmp conn)) old ≡ Some r → new ≡ r → es ≡ set_at conn old new → IsKept given old ds → IsKept given es ds
-kept_same conn given r new old es ds found same set kept =
-    subst (λ (xs : List (ℕ × Record)). IsKept given xs ds) (sym (same_back conn r new old es found same set)) kept
+pub kept_same : (conn last : ℕ) (r new : Record) (old es : List (ℕ × Record)) (ds : List (ℕ × ℕ)) → lookup (is_at (nat_cmp conn)) old ≡ Some r → new ≡ r → es ≡ set_at conn old new → IsKept last old ds → IsKept last es ds
+kept_same conn last r new old es ds found same set kept =
+    subst (λ (xs : List (ℕ × Record)). IsKept last xs ds) (sym (same_back conn r new old es found same set)) kept
 
 -- an event changed how a connection stands, and its deadline follows
-pub kept_moved : (event : BookEvent) (reply : BookReply) (conn given at : ℕ) (r new : Record) (old es : List (ℕ × Record)) (ds later : List (ℕ × ℕ)) → is_opened reply ≡ false → lookup (is_at (nat_cmp conn)) old ≡ Some r → new ≡ record_after event reply r → es ≡ set_at conn old new → at ≡ due_at new.standing → (IsSome (lookup (is_at (nat_cmp conn)) ds) → later ≡ insert_entry nat_cmp ds conn at) → IsKept given old ds → IsKept given es later
-kept_moved event reply conn given at r new old es ds later opens found made set time moved kept = record {
-  sound = sound_after event reply conn given r new old es opens found made set kept.sound;
+pub kept_moved : (event : BookEvent) (reply : BookReply) (conn last at : ℕ) (r new : Record) (old es : List (ℕ × Record)) (ds later : List (ℕ × ℕ)) → is_opened reply ≡ false → lookup (is_at (nat_cmp conn)) old ≡ Some r → new ≡ record_after event reply r → es ≡ set_at conn old new → at ≡ due_at new.standing → (IsSome (lookup (is_at (nat_cmp conn)) ds) → later ≡ insert_entry nat_cmp ds conn at) → IsKept last old ds → IsKept last es later
+kept_moved event reply conn last at r new old es ds later opens found made set time moved kept = record {
+  sound = sound_after event reply conn last r new old es opens found made set kept.sound;
   rises = rises_set conn new old es set kept.rises;
   due =
       moved (has_deadline conn old r ds kept.due found)
@@ -145,18 +145,18 @@ is_none_by None h = refl
 is_none_by (Some m) h = cc
 
 -- a new connection's deadline, given and cancelled
-pub kept_back : (given n v : ℕ) (es : List (ℕ × Record)) (ds more left : List (ℕ × ℕ)) → lookup (is_at (nat_cmp n)) es ≡ None → more ≡ insert_entry nat_cmp ds n v → left ≡ without_deadline more n → IsKept given es ds → IsKept given es left
-kept_back given n v es ds more left none put out kept =
+pub kept_back : (last n v : ℕ) (es : List (ℕ × Record)) (ds more left : List (ℕ × ℕ)) → lookup (is_at (nat_cmp n)) es ≡ None → more ≡ insert_entry nat_cmp ds n v → left ≡ without_deadline more n → IsKept last es ds → IsKept last es left
+kept_back last n v es ds more left none put out kept =
     let absent : lookup (is_at (nat_cmp n)) ds ≡ None = is_none_by (lookup (is_at (nat_cmp n)) ds) (ap (λ (xs : List (ℕ × ℕ)). is_some (lookup (is_at (nat_cmp n)) xs)) kept.due ∙ found_both n es ∙ ap is_some none) in
     record { sound = kept.sound; rises = kept.rises; due = out ∙ ap (λ (xs : List (ℕ × ℕ)). without_deadline xs n) put ∙ taken_back n v ds absent ∙ kept.due }
 
-above_not : (n given m : ℕ) → m ≤ given → given < n → is_at (nat_cmp n) m ≡ false
-above_not n given m h k = grind (arith, nat_tests)
+above_not : (n last m : ℕ) → m ≤ last → last < n → is_at (nat_cmp n) m ≡ false
+above_not n last m h k = grind (arith, nat_tests)
 
 -- a number above those that were given is no connection's
-pub none_above : (n given : ℕ) (es : List (ℕ × Record)) → given < n → AllByRecursion (λ e. e.0 ≤ given) es → lookup (is_at (nat_cmp n)) es ≡ None
-none_above n given [] h all = refl
-none_above n given (e ∷ es) h all = none_by (is_at (nat_cmp n) e.0) e.1 (lookup (is_at (nat_cmp n)) es) (above_not n given e.0 all.0 h) (none_above n given es h all.1)
+pub none_above : (n last : ℕ) (es : List (ℕ × Record)) → last < n → AllByRecursion (λ e. e.0 ≤ last) es → lookup (is_at (nat_cmp n)) es ≡ None
+none_above n last [] h all = refl
+none_above n last (e ∷ es) h all = none_by (is_at (nat_cmp n) e.0) e.1 (lookup (is_at (nat_cmp n)) es) (above_not n last e.0 all.0 h) (none_above n last es h all.1)
 
 -- ONES GO
 
@@ -194,34 +194,34 @@ rises_left test (e ∷ es) rises = rises_by (test e) e (filter test es) (above_l
 pub left_is : (now : ℕ) (es left : List (ℕ × Record)) (conns : List ℕ) → IsStrictlySortedBy nat_cmp (keys_of es) → conns ≡ numbers_over now es → left ≡ without_all es conns → left ≡ filter (λ e. not (is_over now e.1)) es
 left_is now es left conns rises are is = is ∙ ap (without_all es) are ∙ left_over now es rises
 
-pub kept_gone : (now given : ℕ) (es left : List (ℕ × Record)) (ds later : List (ℕ × ℕ)) (conns : List ℕ) → conns ≡ numbers_over now es → left ≡ without_all es conns → later ≡ without_deadlines ds conns → IsKept given es ds → IsKept given left later
-kept_gone now given es left ds later conns are is gone kept =
+pub kept_gone : (now last : ℕ) (es left : List (ℕ × Record)) (ds later : List (ℕ × ℕ)) (conns : List ℕ) → conns ≡ numbers_over now es → left ≡ without_all es conns → later ≡ without_deadlines ds conns → IsKept last es ds → IsKept last left later
+kept_gone now last es left ds later conns are is gone kept =
     let rest = left_is now es left conns kept.rises are is in
     record {
-      sound = subst (IsSound given) (sym rest) (sound_kept now given es kept.sound);
+      sound = subst (IsSound last) (sym rest) (sound_kept now last es kept.sound);
       rises = subst (λ (xs : List (ℕ × Record)). IsStrictlySortedBy nat_cmp (keys_of xs)) (sym rest) (rises_left (λ e. not (is_over now e.1)) es kept.rises);
       due = gone ∙ ap (λ (xs : List (ℕ × ℕ)). without_deadlines xs conns) kept.due ∙ sym (gone_all es conns) ∙ ap deadlines_of (sym is);
     }
 
-last_above : (m given n : ℕ) → m ≤ given → n ≡ given + 1 → nat_cmp m n ≡ Less
-last_above m given n h is = grind (arith, nat_tests)
+last_above : (m last n : ℕ) → m ≤ last → n ≡ last + 1 → nat_cmp m n ≡ Less
+last_above m last n h is = grind (arith, nat_tests)
 
 above_last : (m n : ℕ) (r : Record) (es : List (ℕ × Record)) → nat_cmp m n ≡ Less → AllByRecursion (λ q. nat_cmp m q ≡ Less) (keys_of es) → AllByRecursion (λ q. nat_cmp m q ≡ Less) (keys_of (es ++ (n, r) ∷ []))
 above_last m n r [] h all = (h, tt)
 above_last m n r (e ∷ es) h all = (all.0, above_last m n r es h all.1)
 
-rises_last : (n given : ℕ) (r : Record) (es : List (ℕ × Record)) → n ≡ given + 1 → AllByRecursion (λ e. e.0 ≤ given) es → IsStrictlySortedBy nat_cmp (keys_of es) → IsStrictlySortedBy nat_cmp (keys_of (es ++ (n, r) ∷ []))
+rises_last : (n last : ℕ) (r : Record) (es : List (ℕ × Record)) → n ≡ last + 1 → AllByRecursion (λ e. e.0 ≤ last) es → IsStrictlySortedBy nat_cmp (keys_of es) → IsStrictlySortedBy nat_cmp (keys_of (es ++ (n, r) ∷ []))
 unfolding IsStrictlySortedBy
-rises_last n given r [] is below rises = (tt, tt)
-rises_last n given r (e ∷ es) is below rises = (above_last e.0 n r es (last_above e.0 given n below.0 is) rises.0, rises_last n given r es is below.1 rises.1)
+rises_last n last r [] is below rises = (tt, tt)
+rises_last n last r (e ∷ es) is below rises = (above_last e.0 n r es (last_above e.0 last n below.0 is) rises.0, rises_last n last r es is below.1 rises.1)
 
--- a new connection stands behind the others
-pub kept_new : (n given word at : ℕ) (r : Record) (es more : List (ℕ × Record)) (ds later : List (ℕ × ℕ)) → n ≡ given + 1 → n < 2 ^ 32 → r.key ≡ key_text n word → more ≡ insert_entry nat_cmp es n r → at ≡ due_at r.standing → later ≡ insert_entry nat_cmp ds n at → IsKept given es ds → IsKept n more later
-kept_new n given word at r es more ds later next small key put time moved kept =
-    let last = put ∙ inserted_last n given r es next kept.sound.below in
+-- a new connection stands after the others
+pub kept_new : (n last word at : ℕ) (r : Record) (es more : List (ℕ × Record)) (ds later : List (ℕ × ℕ)) → n ≡ last + 1 → n < 2 ^ 32 → r.key ≡ key_text n word → more ≡ insert_entry nat_cmp es n r → at ≡ due_at r.standing → later ≡ insert_entry nat_cmp ds n at → IsKept last es ds → IsKept n more later
+kept_new n last word at r es more ds later next small key put time moved kept =
+    let at_end = put ∙ inserted_last n last r es next kept.sound.below in
     record {
-      sound = subst (IsSound n) (sym last) (sound_more n given word r es next small key kept.sound);
-      rises = subst (λ (xs : List (ℕ × Record)). IsStrictlySortedBy nat_cmp (keys_of xs)) (sym last) (rises_last n given r es next kept.sound.below kept.rises);
+      sound = subst (IsSound n) (sym at_end) (sound_more n last word r es next small key kept.sound);
+      rises = subst (λ (xs : List (ℕ × Record)). IsStrictlySortedBy nat_cmp (keys_of xs)) (sym at_end) (rises_last n last r es next kept.sound.below kept.rises);
       due =
           moved
           ∙ ap (insert_entry nat_cmp ds n) time

@@ -5,6 +5,7 @@ use Rattle.std.specs.List.Sorted.{IsStrictlySortedBy}
 use Rattle.std.specs.Map.{lookup, remove_entry, keys_of}
 use Rattle.std.specs.BTreeMap.{is_at}
 use Rattle.std.specs.Ordering.{nat_cmp}
+use Rattle.rl_numbers.specs.declared.limits.TheConstants.{CONNECTION_STATE_TTL}
 use Rattle.rl_connbook.specs.declared.record.Record.{Record}
 use Rattle.rl_connbook.specs.declared.record.Standing.{Standing}
 use Rattle.rl_connbook.specs.declared.record.Standing.TheVariants.{Live, LostSince, Closed}
@@ -14,7 +15,7 @@ use Rattle.rl_connbook.specs.Sound.{IsSound}
 -- the moment from which a connection may be over: for a live one there is none but the last
 abbrev pub due_at : Standing → ℕ
 due_at Live = 2 ^ 64 - 1
-due_at (LostSince since) = min (since + 120000) (2 ^ 64 - 1)
+due_at (LostSince since) = min (since + CONNECTION_STATE_TTL) (2 ^ 64 - 1)
 due_at Closed = 0
 
 -- each connection's number with that moment
@@ -22,8 +23,8 @@ abbrev pub deadlines_of : List (ℕ × Record) → List (ℕ × ℕ)
 deadlines_of records = map (λ e. (e.0, due_at e.1.standing)) records
 
 -- the book is sound, its records' numbers rise, and its deadlines are those of its records
-pub record IsKept (given : ℕ) (records : List (ℕ × Record)) (deadlines : List (ℕ × ℕ)) : Type 0 where
-  pub sound : IsSound given records
+pub record IsKept (last : ℕ) (records : List (ℕ × Record)) (deadlines : List (ℕ × ℕ)) : Type 0 where
+  pub sound : IsSound last records
   pub rises : IsStrictlySortedBy nat_cmp (keys_of records)
   pub due : deadlines ≡ deadlines_of records
 

@@ -3,14 +3,19 @@ use Rattle.std.specs.Prelude.{◌≡◌, ℕ, List, [], ◌∷◌, map, reverse,
 use Rattle.rl_types.specs.declared.book.BookEvent.{BookEvent}
 use Rattle.rl_types.specs.declared.book.BookEvent.TheVariants.{Open, Resume, Begin, End, Lost, Close, Expire}
 use Rattle.rl_types.specs.declared.book.BookReply.{BookReply}
-use Rattle.rl_types.specs.declared.book.BookReply.TheVariants.{Opened, Resumed, KeyUnknown, Go, Known, SerialGap, SerialOld, Superseded, NoRecord, Done, Expired}
+use Rattle.rl_types.specs.declared.book.BookReply.TheVariants.{Opened, Limit, Resumed, KeyUnknown, Go, Known, SerialGap, SerialOld, Superseded, NoRecord, Done, Expired}
 use Rattle.rl_types.specs.declared.channel.Outcome.TheVariants.{Taken}
+use Rattle.rl_numbers.specs.declared.limits.TheConstants.{MAX_CONNECTION}
 use Rattle.rl_connbook.specs.Records.{Answered}
-use Rattle.rl_connbook.specs.Book.{decided}
+use Rattle.rl_connbook.specs.Book.{history}
 
--- the replies to these events in turn, of a new book
+-- the replies to these events in turn, of a book that gives the numbers above `after`, up to `last`
+abbrev pub replies_between : ℕ → ℕ → List BookEvent → List BookReply
+replies_between after last events = reverse (map (λ (a : Answered). a.reply) (history (record { after = after; last = last }) events))
+
+-- of a book of all numbers
 abbrev pub replies : List BookEvent → List BookReply
-replies events = reverse (map (λ (a : Answered). a.reply) (decided (reverse events)))
+replies events = replies_between 0 MAX_CONNECTION events
 
 abbrev pub key : List ℕ
 key = codes "c00000001!0000000000000007"
@@ -31,3 +36,9 @@ pub record Replies : Type 0 where
   -- an outcome that an earlier generation's call left is known to the next one
   pub left_behind : replies (Open 7 0 ∷ Begin 1 1 0 ∷ Lost 1 1 0 ∷ Resume key 0 ∷ Begin 1 2 0 ∷ End 1 1 0 (Some (Taken 1)) ∷ Begin 1 2 0 ∷ End 1 1 5 (Some (Taken 2)) ∷ Begin 1 2 5 ∷ [])
       ≡ Opened 1 1 key ∷ Go ∷ Done ∷ Resumed 1 2 ∷ Go ∷ Superseded 2 ∷ Known (Taken 1) ∷ Superseded 2 ∷ SerialGap 5 1 ∷ []
+  -- the second of two ranges that lie side by side: its first number, and a key with that number
+  pub range_begins : replies_between 2097152 4194303 (Open 7 0 ∷ Begin 2097153 1 0 ∷ Begin 1 1 0 ∷ Resume (codes "c00200001!0000000000000007") 0 ∷ [])
+      ≡ Opened 2097153 1 (codes "c00200001!0000000000000007") ∷ Go ∷ NoRecord ∷ Resumed 2097153 2 ∷ []
+  -- the last number of a range is given, and none after it, also where connections have gone
+  pub range_ends : replies_between 4194301 4194303 (Open 7 0 ∷ Open 8 0 ∷ Open 9 0 ∷ Close 4194302 1 ∷ Expire 0 ∷ Open 9 0 ∷ [])
+      ≡ Opened 4194302 1 (codes "c003ffffe!0000000000000007") ∷ Opened 4194303 1 (codes "c003fffff!0000000000000008") ∷ Limit 2 2 ∷ Done ∷ Expired (4194302 ∷ []) ∷ Limit 1 2 ∷ []

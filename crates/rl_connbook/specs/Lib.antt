@@ -5,4 +5,5 @@ pub mod Book
 pub mod Steps
 pub mod Sound
 pub mod Due
+pub mod Laws
 pub mod Examples

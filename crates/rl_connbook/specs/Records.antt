@@ -6,6 +6,7 @@ use Rattle.rl_types.specs.declared.book.BookEvent.TheVariants.{Open, Resume, Beg
 use Rattle.rl_types.specs.declared.book.BookReply.{BookReply}
 use Rattle.rl_types.specs.declared.book.BookReply.TheVariants.{Opened, Resumed, Go, Superseded, NoRecord, Done}
 use Rattle.rl_types.specs.declared.channel.Outcome.{Outcome}
+use Rattle.rl_numbers.specs.declared.limits.TheConstants.{MAX_MESSAGE_SERIAL, MAX_KEPT_OUTCOMES}
 use Rattle.rl_connbook.specs.declared.record.Record.{Record}
 use Rattle.rl_connbook.specs.declared.record.Standing.{Standing}
 use Rattle.rl_connbook.specs.declared.record.Standing.TheVariants.{Live, LostSince, Closed}
@@ -97,8 +98,8 @@ had_begin (a ∷ story) = begun_after a.event a.reply (standing_of story) (had_b
 -- an End keeps its outcome at a serial not below the expected one; one of an earlier generation keeps it at
 -- the expected serial alone
 abbrev pub keeps : BookReply → ℕ → ℕ → Bool
-keeps Done serial expected = nat_le expected serial && nat_le serial (2 ^ 53 - 1)
-keeps (Superseded newer) serial expected = (serial == expected) && nat_le serial (2 ^ 53 - 1)
+keeps Done serial expected = nat_le expected serial && nat_le serial (MAX_MESSAGE_SERIAL)
+keeps (Superseded newer) serial expected = (serial == expected) && nat_le serial (MAX_MESSAGE_SERIAL)
 keeps reply serial expected = false
 
 -- the serial that is expected: 0, and after a kept outcome one more than its serial
@@ -111,11 +112,11 @@ abbrev pub expected_of : List Answered → ℕ
 expected_of [] = 0
 expected_of (a ∷ story) = expected_after a.event a.reply (expected_of story)
 
--- without the oldest, where they are more than 1,024
+-- without the oldest, where they are too many
 abbrev pub latest : List (ℕ × Outcome) → List (ℕ × Outcome)
-latest outcomes = if nat_lt 1024 (length outcomes) then drop 1 outcomes else outcomes
+latest outcomes = if nat_lt MAX_KEPT_OUTCOMES (length outcomes) then drop 1 outcomes else outcomes
 
--- the latest 1,024 outcomes that were kept, each with its serial, in order
+-- the latest outcomes that were kept, each with its serial, in order
 abbrev pub outcomes_after : BookEvent → BookReply → ℕ → List (ℕ × Outcome) → List (ℕ × Outcome)
 outcomes_after (Open word now) reply expected earlier = []
 outcomes_after (End conn generation serial (Some outcome)) reply expected earlier = if keeps reply serial expected then latest (earlier ++ (serial, outcome) ∷ []) else earlier

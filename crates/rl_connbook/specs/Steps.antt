@@ -41,7 +41,8 @@ records_after event reply es = map (entry_after event reply) es
 abbrev pub after : Book → BookEvent → Book
 after book event =
     record {
-      given = if is_opened (told book event) then book.given + 1 else book.given;
+      range = book.range;
+      last_given = if is_opened (told book event) then book.last_given + 1 else book.last_given;
       records = records_after event (told book event) book.records;
     }
 

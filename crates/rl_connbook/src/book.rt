@@ -1,62 +1,68 @@
-ghost use Rattle.std.specs.Prelude.{◌≡◌, ℕ, [], true, map, Some, IfOk, OnOk, OnErr, IsOk, IsSome};
+ghost use Rattle.std.specs.Prelude.{◌≡◌, ◌≤◌, ℕ, [], true, map, Some, IfOk, OnOk, OnErr, IsOk, IsSome};
 ghost use Rattle.std.specs.List.{filter};
 ghost use Rattle.std.specs.List.Sorted.{IsStrictlySortedBy};
 ghost use Rattle.std.specs.Map.{keys_of, lookup};
 ghost use Rattle.std.specs.BTreeMap.{is_at, insert_entry};
 ghost use Rattle.std.specs.Ordering.{nat_cmp};
 ghost use Rattle.rl_types.specs.declared.book.BookEvent.{BookEvent};
-ghost use Rattle.rl_connbook.specs.Book.{told, book_after, is_full, is_over, is_spare};
+ghost use Rattle.rl_connbook.specs.Book.{told, book_after, given, is_full, is_over, is_spare};
 ghost use Rattle.rl_connbook.specs.Steps.{after, without_all};
 ghost use Rattle.rl_connbook.specs.Due.{is_over_at, due_numbers, without_deadlines};
 
 use crate::keys::{key_text, number_in};
+use crate::range::NumberRange;
 use crate::record::Record;
 use crate::shelf::Shelf;
 use rl_deadline::Deadlines;
 use rl_ids::{ConnNo, Copied, List, Moment, NoMemory, Text};
+use rl_numbers::limits::{MAX_CONNECTION, MAX_CONNECTIONS};
 use rl_turnlock::Machine;
 use rl_types::{BookEvent, BookReply, Outcome};
 use std::alloc::Global;
 use std::marker::Model;
 
-// the most connections that stand at a time
-const MAX_RECORDS: usize = 1024;
-
 /// The book of connections (RTN15, RTN16; the book and its limits are this project's own).
 ///
-/// It is a [`Machine`], with no setup: what it answers is said by its events alone. A contract sees the book as
-/// how many numbers it gave and the records that stand, in order of number; that it stands for a history says
-/// that these are what the definitions make of the history.
+/// It is a [`Machine`]. Its setup is the range of the numbers that it gives; what it answers is said by that and
+/// by its events alone. A contract sees the book as its range, the last number that it gave and the records that
+/// stand, in order of number; that it stands for a history says that these are what the definitions make of the
+/// history.
 ///
-/// - `Open` gives the next number, from 1, with generation 1 and a key; or `Limit` exactly where 1,024
-///   connections stand or 2^32 - 1 numbers were given.
+/// - `Open` gives the next number, from `after + 1`, with generation 1 and a key; or `Limit` exactly where
+///   [`MAX_CONNECTIONS`] stand or no number of the range is left. `Limit` says how many stand, and how many
+///   numbers this book gave: with `last - after` of them none is left, whatever number the range begins at.
 /// - `Resume` brings a live or lost connection back under the next generation; or `KeyUnknown` exactly where no
-///   such connection has that key, or its generation is 2^64 - 2.
+///   such connection has that key, or its generation is `MAX_RESUMED_GENERATION`.
 /// - `Begin`, `End`, `Lost` and `Close` are `NoRecord` exactly where no connection with that number stands, and
 ///   `Superseded` exactly where its generation is greater than theirs.
 /// - `Begin` is `Go` at the expected serial, and above it where it is the first one of its generation, else
-///   `SerialGap`. Below it, it is `Known` where the outcome is among the latest 1,024, else `SerialOld`.
+///   `SerialGap`. Below it, it is `Known` where the outcome is among the latest `MAX_KEPT_OUTCOMES`, else
+///   `SerialOld`.
 /// - `End` is one call in flight fewer. It keeps its outcome at a serial not below the expected one and at most
-///   2^53 - 1; one of an earlier generation at exactly the expected serial.
+///   `MAX_MESSAGE_SERIAL`; one of an earlier generation at exactly the expected serial.
 /// - `Lost` and `Close` change how the connection stands; `Close` also raises its generation.
-/// - `Expire` removes each connection without calls in flight that is closed, or lost for 120 seconds.
+/// - `Expire` removes each connection without calls in flight that is closed, or lost for
+///   `CONNECTION_STATE_TTL`.
 ///
-/// `Begin` and `Lost` take no memory and are always answered. After `NoMemory` the book is as before.
+/// `Resume`, `Begin`, `Lost` and `Close` take no memory and are always answered. After `NoMemory` the book is as
+/// before.
 ///
 /// No event looks at all connections. With n of them, a record stands in a slot of a slab, and its number leads to
 /// the slot in steps of about the logarithm of n. `Resume` finds it by its key the same way: a key has the number
 /// in its place, and the two keys are then compared. What each event costs beside that:
 ///
-/// - `Begin` below the expected serial looks at the outcomes that are kept, at most 1,024, and `End` may move them.
+/// - `Begin` below the expected serial looks at the outcomes that are kept, and `End` may move them.
 /// - `Open`, `Resume`, `Lost` and `Close` put the connection's deadline in its place among the others: a search by
 ///   halves, and a move of at most 16 bytes for each of n in one piece.
 /// - `Expire` looks at the connections whose deadline has come, and at one deadline more: a live one has no
-///   deadline before 2^64 - 1, a lost one has it 120 seconds after the loss, a closed one at once. It sorts their
-///   numbers, tests each, and removes each one that is over, which costs as much as a `Close`. One that has a call
-///   in flight keeps its deadline, and is tested again by the next `Expire`.
+///   deadline before 2^64 - 1, a lost one has it `CONNECTION_STATE_TTL` after the loss, a closed one at once. It
+///   sorts their numbers, tests each, and removes each one that is over, which costs as much as a `Close`. One that
+///   has a call in flight keeps its deadline, and is tested again by the next `Expire`.
 #[derive(Drop)]
 pub struct ConnBook {
-    given: u32,
+    range: NumberRange,
+    // `after` where no number was given
+    last_given: u32,
     records: Shelf<Record>,
     // from when each may be over
     deadlines: Deadlines,
@@ -68,9 +74,9 @@ impl Model for ConnBook {
 
     ghost Value = { Book };
 
-    ghost view = { λ b. record { given = b.given; records = b.records } };
+    ghost view = { λ b. record { range = b.range; last_given = b.last_given; records = b.records } };
 
-    ghost invariant = { λ b. IsKept b.given b.records b.deadlines };
+    ghost invariant = { λ b. IsKept b.last_given b.records b.deadlines };
 }
 
 // Removes the records of these connections.
@@ -101,13 +107,23 @@ fn postpone(deadlines: &mut Deadlines, number: u32, at: Moment)
 }
 
 impl ConnBook {
-    /// A book in which no connection stands, and that gave no number: it stands for no event. `NoMemory` comes
+    /// A book of all numbers: that [`between`](ConnBook::between) 0 and [`MAX_CONNECTION`]. `NoMemory` comes
     /// where there is no memory.
     pub fn new(alloc: Global) -> Result<ConnBook, NoMemory>
-        ensures { IfOk result (λ book. book ≡ book_after []) }
+        ensures { IfOk result (λ book. book ≡ book_after (record { after = 0; last = MAX_CONNECTION }) []) }
+    {
+        ConnBook::between(alloc, 0, MAX_CONNECTION)
+    }
+
+    /// A book in which no connection stands, and that gave no number: it stands for no event. It gives the
+    /// numbers above `after`, up to `last`. `NoMemory` comes where there is no memory.
+    pub fn between(alloc: Global, after: u32, last: u32) -> Result<ConnBook, NoMemory>
+        requires { after ≤ last }
+        ensures { IfOk result (λ book. book ≡ book_after (record { after = after; last = last }) []) }
     {
         Ok(ConnBook {
-            given: 0,
+            range: NumberRange { after, last },
+            last_given: after,
             records: Shelf::new(alloc),
             deadlines: Deadlines::new(alloc),
         })
@@ -117,7 +133,14 @@ impl ConnBook {
     fn is_full(&self) -> bool
         ensures { result ≡ is_full self.now }
     {
-        self.records.len() >= MAX_RECORDS || self.given == u32::MAX
+        self.records.len() >= MAX_CONNECTIONS || self.last_given >= self.range.last
+    }
+
+    // How many numbers were given.
+    fn given(&self) -> u32
+        ensures { result ≡ given self.now }
+    {
+        self.last_given.saturating_sub(self.range.after)
     }
 
     // The key, its copy and the deadline are made before the record. Where the memory for the record ends, the
@@ -130,10 +153,10 @@ impl ConnBook {
         if self.is_full() {
             return Ok(BookReply::Limit {
                 count: self.records.len(),
-                given: self.given,
+                given: self.given(),
             });
         }
-        let conn = self.given + 1;
+        let conn = self.last_given + 1;
         let key = key_text(alloc, conn, word)?;
         let shown = key.copy(alloc)?;
         let record = Record::new(alloc, key);
@@ -142,7 +165,7 @@ impl ConnBook {
             self.deadlines.cancel(conn);
             return Err(NoMemory);
         }
-        self.given = conn;
+        self.last_given = conn;
         Ok(BookReply::Opened {
             conn: ConnNo(conn),
             generation: 1,
@@ -339,22 +362,22 @@ impl Machine for ConnBook {
 
     type Reply = BookReply;
 
-    type Setup = ();
+    type Setup = NumberRange;
 
     ghost use Rattle.std.specs.Prelude.{◌≡◌};
     ghost use Rattle.rl_connbook.specs.Book.{book_after, reply_after, is_spare};
 
-    ghost stands = { λ book past. book ≡ book_after past };
+    ghost stands = { λ book past. book ≡ book_after book.range past };
 
-    ghost setup = { λ _. tt };
+    ghost setup = { λ book. book.range };
 
-    ghost any_setup = { tt };
+    ghost any_setup = { record { after = 0; last = 0 } };
 
-    ghost reply = { λ _ past event. reply_after past event };
+    ghost reply = { reply_after };
 
     ghost is_spare = { is_spare };
 
-    #[tactic(auto, using(crate::proofs::History::one_more))]
+    #[tactic(auto, using(crate::proofs::History::stands_more))]
     fn take(&mut self, alloc: Global, event: BookEvent) -> Result<BookReply, NoMemory> {
         self.step(alloc, event)
     }

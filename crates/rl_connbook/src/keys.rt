@@ -1,7 +1,8 @@
-ghost use Rattle.std.specs.Prelude.{◌≡◌, ◌<◌, ◌^◌, ◌%◌, ◌*◌, ◌+◌, IfOk};
+ghost use Rattle.std.specs.Prelude.{◌≡◌, ℕ, IfOk, Some};
 ghost use Rattle.rl_connbook.specs.Book.{key_text};
-ghost use Rattle.rl_connbook.specs.Sound.{digit_value, digit_step, digits_value, number_in};
+ghost use Rattle.rl_connbook.specs.Sound.{IsNumbered};
 
+use rl_base::read_fixed;
 use rl_ids::{ConnNo, NoMemory, Text, write_conn};
 use std::alloc::Global;
 
@@ -15,39 +16,19 @@ pub fn key_text(alloc: Global, conn: u32, word: u64) -> Result<Text, NoMemory>
     Ok(key)
 }
 
-fn digit_value(digit: u8) -> u8
-    ensures { result ≡ digit_value digit }
+// The number that a text spells where a key has it.
+fn read_number(key: &[u8]) -> Option<u32>
+    ensures { (n : ℕ) → IsNumbered n key.now → result ≡ Some n }
 {
-    if digit < 97 {
-        digit.saturating_sub(48)
-    } else {
-        digit - 87
-    }
+    let digits = key.get(1..9)?;
+    let number = read_fixed(digits, 16, 8)?;
+    u32::try_from(number).ok()
 }
 
-fn digit_step(number: u32, digit: u8) -> u32
-    ensures { result ≡ digit_step number digit }
-{
-    let next = u64::from(number) * 16 + u64::from(digit_value(digit));
-    (next % 4_294_967_296) as u32
-}
-
-#[tactic(auto, using(std::proofs::lemmas::List::Sums::fold_push))]
-fn digits_value(digits: &[u8]) -> u32
-    ensures { result ≡ digits_value digits.now }
-{
-    let mut number = 0;
-    for digit in digits {
-        number = digit_step(number, *digit);
-    }
-    number
-}
-
-// The number that a key has in its place. A text that is no key may give any number: whoever finds a
-// record by it compares the keys.
+// The number that a key has in its place. Another text may have one there too: whoever finds a record by it
+// compares the keys. Where a text has none it is 0, which is no connection's.
 pub fn number_in(key: &[u8]) -> u32
-    ensures { result ≡ number_in key.now }
+    ensures { (n : ℕ) → IsNumbered n key.now → result ≡ n }
 {
-    let len = key.len();
-    digits_value(&key[len.min(1)..len.min(9)])
+    read_number(key).unwrap_or(0)
 }

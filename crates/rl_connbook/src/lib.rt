@@ -4,9 +4,11 @@
 mod book;
 mod keys;
 pub mod laws;
+mod range;
 mod record;
 mod shelf;
 #[cfg(test)]
 mod tests;
 
 pub use book::ConnBook;
+pub use range::NumberRange;

@@ -7,16 +7,11 @@ ghost use Rattle.rl_connbook.specs.Steps.{record_after, new_record};
 ghost use Rattle.rl_connbook.specs.Due.{due_at};
 
 use rl_ids::{List, Moment, NoMemory, Text};
+use rl_numbers::limits::{
+    CONNECTION_STATE_TTL, MAX_KEPT_OUTCOMES, MAX_MESSAGE_SERIAL, MAX_RESUMED_GENERATION,
+};
 use rl_types::{BookReply, Outcome};
 use std::alloc::Global;
-
-const KEPT_OUTCOMES: usize = 1024;
-
-const MAX_SERIAL: u64 = 9_007_199_254_740_991;
-
-const STATE_TTL: u64 = 120_000;
-// the generation at which a connection cannot come back
-const LAST_RESUMED: u64 = u64::MAX - 1;
 
 // Whether a connection's transport is there.
 #[derive(Clone, Copy, Debug)]
@@ -76,7 +71,9 @@ impl Record {
         }
         match self.standing {
             Standing::Live => false,
-            Standing::LostSince(since) => { now.0 >= STATE_TTL && since.0 <= now.0 - STATE_TTL }
+            Standing::LostSince(since) => {
+                now.0 >= CONNECTION_STATE_TTL && since.0 <= now.0 - CONNECTION_STATE_TTL
+            }
             Standing::Closed => true,
         }
     }
@@ -87,7 +84,7 @@ impl Record {
     {
         match self.standing {
             Standing::Live => Moment(u64::MAX),
-            Standing::LostSince(since) => Moment(since.0.saturating_add(STATE_TTL)),
+            Standing::LostSince(since) => Moment(since.0.saturating_add(CONNECTION_STATE_TTL)),
             Standing::Closed => Moment(0),
         }
     }
@@ -103,7 +100,7 @@ impl Record {
     pub fn may_resume(&self, key: &Text) -> bool
         ensures { result ≡ (bytes_eq key.now self.now.key && is_open self.now.standing && may_resume self.now) }
     {
-        self.has_key(key) && self.generation != LAST_RESUMED
+        self.has_key(key) && self.generation != MAX_RESUMED_GENERATION
     }
 
     // The outcome that is kept of a serial.
@@ -151,7 +148,7 @@ impl Record {
         ensures err { OnErr result (self.new ≡ self.old) }
     {
         if let Some(outcome) = outcome {
-            if self.expected <= serial && serial <= MAX_SERIAL {
+            if self.expected <= serial && serial <= MAX_MESSAGE_SERIAL {
                 self.keep(serial, outcome)?;
             }
         }
@@ -165,7 +162,7 @@ impl Record {
         ensures err { OnErr result (self.new ≡ self.old) }
     {
         if let Some(outcome) = outcome {
-            if serial == self.expected && serial <= MAX_SERIAL {
+            if serial == self.expected && serial <= MAX_MESSAGE_SERIAL {
                 self.keep(serial, outcome)?;
             }
         }
@@ -173,14 +170,14 @@ impl Record {
         Ok(())
     }
 
-    // Keeps an outcome behind the others, and drops the oldest where they are too many.
+    // Keeps an outcome after the others, and drops the oldest where they are too many.
     fn keep(&mut self, serial: u64, outcome: Outcome) -> Result<(), NoMemory>
-        requires { serial ≤ 2 ^ 53 - 1 }
+        requires { serial ≤ MAX_MESSAGE_SERIAL }
         ensures ok { OnOk result (self.new ≡ record self.old { expected = serial + 1; outcomes = latest (self.old.outcomes ++ (serial, outcome) ∷ []) }) }
         ensures err { OnErr result (self.new ≡ self.old) }
     {
         self.outcomes.push((serial, outcome))?;
-        if self.outcomes.len() > KEPT_OUTCOMES {
+        if self.outcomes.len() > MAX_KEPT_OUTCOMES {
             self.outcomes.remove(0);
         }
         self.expected = serial + 1;

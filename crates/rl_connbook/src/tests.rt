@@ -97,3 +97,18 @@ fn a_connection_goes_through_all_kinds_of_events(rt: HostRuntime) -> Result<(), 
     assert_eq!(rt; got.as_slice(), wanted(alloc)?.as_slice());
     Ok(())
 }
+
+#[test]
+fn a_book_gives_the_numbers_of_its_range(rt: HostRuntime) -> Result<(), Fail> {
+    let alloc = rt.alloc();
+    let mut book = ConnBook::between(alloc, 2_097_152, 4_194_303)?;
+    let now = Moment(0);
+    let got = book.take(alloc, BookEvent::Open { word: 7, now })?;
+    let wanted = BookReply::Opened {
+        conn: ConnNo(2_097_153),
+        generation: 1,
+        key: Text::from_str(alloc, "c00200001!0000000000000007")?,
+    };
+    assert_eq!(rt; got, wanted);
+    Ok(())
+}

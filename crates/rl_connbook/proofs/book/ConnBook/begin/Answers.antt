@@ -13,7 +13,7 @@ use Rattle.rl_connbook.proofs.book.ConnBook.begin.Goals as goal
 pub returns-in_default-clause-new : goal.returns-in_default-clause-new
 returns-in_default-clause-new c =
     let conn = c.conn.inside.0 in
-    let book : Book = record { given = c.self.inside.given; records = c.self.inside.records } in
+    let book : Book = record { range = c.self.inside.range; last_given = c.self.inside.last_given; records = c.self.inside.records } in
     let event : BookEvent = Begin conn c.args.generation c.args.serial in
     let found : record_at conn book ≡ None = sym c.in_default.ensures.value in
     rw (← c.self.view_is, ← c.conn.view_is) (unchanged event NoRecord book (at_none c.args.generation (begun c.args.serial) (record_at conn book) found) refl (λ es. refl) (λ r. refl))
@@ -21,16 +21,16 @@ returns-in_default-clause-new c =
 pub invariant_of-self-then-generation-record : goal.invariant_of-self-then-generation-record
 invariant_of-self-then-generation-record c =
     let conn = c.conn.inside.0 in
-    let book : Book = record { given = c.self.inside.given; records = c.self.inside.records } in
+    let book : Book = record { range = c.self.inside.range; last_given = c.self.inside.last_given; records = c.self.inside.records } in
     let event : BookEvent = Begin conn c.args.generation c.args.serial in
     let r = c.in-Some.record.now in
     let found : record_at conn book ≡ Some r = sym c.in-Some.ensures.value in
-    kept_after event (Superseded r.generation) conn c.self.inside.given r r book.records _ c.self.inside.deadlines refl refl found refl refl c.self.invariant
+    kept_after event (Superseded r.generation) conn c.self.inside.last_given r r book.records _ c.self.inside.deadlines refl refl found refl refl c.self.invariant
 
 pub returns-then-generation-record-clause-new : goal.returns-then-generation-record-clause-new
 returns-then-generation-record-clause-new c =
     let conn = c.conn.inside.0 in
-    let book : Book = record { given = c.self.inside.given; records = c.self.inside.records } in
+    let book : Book = record { range = c.self.inside.range; last_given = c.self.inside.last_given; records = c.self.inside.records } in
     let event : BookEvent = Begin conn c.args.generation c.args.serial in
     let r = c.in-Some.record.now in
     let found : record_at conn book ≡ Some r = sym c.in-Some.ensures.value in
@@ -40,17 +40,17 @@ returns-then-generation-record-clause-new c =
 pub invariant_of-self-2 : goal.invariant_of-self-2
 invariant_of-self-2 c =
     let conn = c.conn.inside.0 in
-    let book : Book = record { given = c.self.inside.given; records = c.self.inside.records } in
+    let book : Book = record { range = c.self.inside.range; last_given = c.self.inside.last_given; records = c.self.inside.records } in
     let event : BookEvent = Begin conn c.args.generation c.args.serial in
     let r = c.in-Some.record.now in
     let found : record_at conn book ≡ Some r = sym c.in-Some.ensures.value in
     let made : c.begin.new.self ≡ record_after event (begun c.args.serial r) r = c.begin.ensures.new conn c.args.generation ∙ ap (λ (p : BookReply). record_after event p r) c.begin.ensures.reply in
-    kept_after event (begun c.args.serial r) conn c.self.inside.given r c.begin.new.self book.records _ c.self.inside.deadlines (begun_opens c.args.serial r) refl found made refl c.self.invariant
+    kept_after event (begun c.args.serial r) conn c.self.inside.last_given r c.begin.new.self book.records _ c.self.inside.deadlines (begun_opens c.args.serial r) refl found made refl c.self.invariant
 
 pub returns-clause-new : goal.returns-clause-new
 returns-clause-new c =
     let conn = c.conn.inside.0 in
-    let book : Book = record { given = c.self.inside.given; records = c.self.inside.records } in
+    let book : Book = record { range = c.self.inside.range; last_given = c.self.inside.last_given; records = c.self.inside.records } in
     let event : BookEvent = Begin conn c.args.generation c.args.serial in
     let r = c.in-Some.record.now in
     let found : record_at conn book ≡ Some r = sym c.in-Some.ensures.value in

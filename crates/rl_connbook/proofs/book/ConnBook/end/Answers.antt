@@ -14,7 +14,7 @@ use Rattle.rl_connbook.proofs.book.ConnBook.end.Goals as goal
 pub returns-in_default-clause-new : goal.returns-in_default-clause-new
 returns-in_default-clause-new c =
     let conn = c.conn.inside.0 in
-    let book : Book = record { given = c.self.inside.given; records = c.self.inside.records } in
+    let book : Book = record { range = c.self.inside.range; last_given = c.self.inside.last_given; records = c.self.inside.records } in
     let event : BookEvent = End conn c.args.generation c.args.serial c.args.outcome in
     let found : record_at conn book ≡ None = sym c.in_default.ensures.value in
     rw (← c.self.view_is, ← c.conn.view_is) (unchanged event NoRecord book (at_none c.args.generation (λ _. Done) (record_at conn book) found) refl (λ es. refl) (end_none conn c.args.generation c.args.serial c.args.outcome))
@@ -22,36 +22,36 @@ returns-in_default-clause-new c =
 pub invariant_of-self-in_err-end_late : goal.invariant_of-self-in_err-end_late
 invariant_of-self-in_err-end_late c =
     let conn = c.conn.inside.0 in
-    let book : Book = record { given = c.self.inside.given; records = c.self.inside.records } in
+    let book : Book = record { range = c.self.inside.range; last_given = c.self.inside.last_given; records = c.self.inside.records } in
     let event : BookEvent = End conn c.args.generation c.args.serial c.args.outcome in
     let r = c.in-Some.record.now in
     let found : record_at conn book ≡ Some r = sym c.in-Some.ensures.value in
-    kept_same conn c.self.inside.given r c.end_late.new.self book.records _ c.self.inside.deadlines found c.in_err-end_late.ensures.err refl c.self.invariant
+    kept_same conn c.self.inside.last_given r c.end_late.new.self book.records _ c.self.inside.deadlines found c.in_err-end_late.ensures.err refl c.self.invariant
 
 pub returns-in_err-end_late-clause-err : goal.returns-in_err-end_late-clause-err
 returns-in_err-end_late-clause-err c =
     let conn = c.conn.inside.0 in
-    let book : Book = record { given = c.self.inside.given; records = c.self.inside.records } in
+    let book : Book = record { range = c.self.inside.range; last_given = c.self.inside.last_given; records = c.self.inside.records } in
     let event : BookEvent = End conn c.args.generation c.args.serial c.args.outcome in
     let r = c.in-Some.record.now in
     let found : record_at conn book ≡ Some r = sym c.in-Some.ensures.value in
     let same = same_back conn r c.end_late.new.self book.records _ found c.in_err-end_late.ensures.err refl in
-    rw (← c.self.view_is) (let put : List (ℕ × Record) → Book = λ es. record { given = c.self.inside.given; records = es } in let e = ap put same in search (rules, e))
+    rw (← c.self.view_is) (let put : List (ℕ × Record) → Book = λ es. record { range = c.self.inside.range; last_given = c.self.inside.last_given; records = es } in let e = ap put same in search (rules, e))
 
 pub invariant_of-self-then-generation-newer : goal.invariant_of-self-then-generation-newer
 invariant_of-self-then-generation-newer c =
     let conn = c.conn.inside.0 in
-    let book : Book = record { given = c.self.inside.given; records = c.self.inside.records } in
+    let book : Book = record { range = c.self.inside.range; last_given = c.self.inside.last_given; records = c.self.inside.records } in
     let event : BookEvent = End conn c.args.generation c.args.serial c.args.outcome in
     let r = c.in-Some.record.now in
     let found : record_at conn book ≡ Some r = sym c.in-Some.ensures.value in
     let made : c.end_late.new.self ≡ record_after event (Superseded r.generation) r = c.in_ok-end_late.ensures.ok conn c.args.generation r.generation in
-    kept_after event (Superseded r.generation) conn c.self.inside.given r c.end_late.new.self book.records _ c.self.inside.deadlines refl refl found made refl c.self.invariant
+    kept_after event (Superseded r.generation) conn c.self.inside.last_given r c.end_late.new.self book.records _ c.self.inside.deadlines refl refl found made refl c.self.invariant
 
 pub returns-then-generation-newer-clause-new : goal.returns-then-generation-newer-clause-new
 returns-then-generation-newer-clause-new c =
     let conn = c.conn.inside.0 in
-    let book : Book = record { given = c.self.inside.given; records = c.self.inside.records } in
+    let book : Book = record { range = c.self.inside.range; last_given = c.self.inside.last_given; records = c.self.inside.records } in
     let event : BookEvent = End conn c.args.generation c.args.serial c.args.outcome in
     let r = c.in-Some.record.now in
     let found : record_at conn book ≡ Some r = sym c.in-Some.ensures.value in
@@ -62,36 +62,36 @@ returns-then-generation-newer-clause-new c =
 pub invariant_of-self-in_err-end : goal.invariant_of-self-in_err-end
 invariant_of-self-in_err-end c =
     let conn = c.conn.inside.0 in
-    let book : Book = record { given = c.self.inside.given; records = c.self.inside.records } in
+    let book : Book = record { range = c.self.inside.range; last_given = c.self.inside.last_given; records = c.self.inside.records } in
     let event : BookEvent = End conn c.args.generation c.args.serial c.args.outcome in
     let r = c.in-Some.record.now in
     let found : record_at conn book ≡ Some r = sym c.in-Some.ensures.value in
-    kept_same conn c.self.inside.given r c.end.new.self book.records _ c.self.inside.deadlines found c.in_err-end.ensures.err refl c.self.invariant
+    kept_same conn c.self.inside.last_given r c.end.new.self book.records _ c.self.inside.deadlines found c.in_err-end.ensures.err refl c.self.invariant
 
 pub returns-in_err-end-clause-err : goal.returns-in_err-end-clause-err
 returns-in_err-end-clause-err c =
     let conn = c.conn.inside.0 in
-    let book : Book = record { given = c.self.inside.given; records = c.self.inside.records } in
+    let book : Book = record { range = c.self.inside.range; last_given = c.self.inside.last_given; records = c.self.inside.records } in
     let event : BookEvent = End conn c.args.generation c.args.serial c.args.outcome in
     let r = c.in-Some.record.now in
     let found : record_at conn book ≡ Some r = sym c.in-Some.ensures.value in
     let same = same_back conn r c.end.new.self book.records _ found c.in_err-end.ensures.err refl in
-    rw (← c.self.view_is) (let put : List (ℕ × Record) → Book = λ es. record { given = c.self.inside.given; records = es } in let e = ap put same in search (rules, e))
+    rw (← c.self.view_is) (let put : List (ℕ × Record) → Book = λ es. record { range = c.self.inside.range; last_given = c.self.inside.last_given; records = es } in let e = ap put same in search (rules, e))
 
 pub invariant_of-self-2 : goal.invariant_of-self-2
 invariant_of-self-2 c =
     let conn = c.conn.inside.0 in
-    let book : Book = record { given = c.self.inside.given; records = c.self.inside.records } in
+    let book : Book = record { range = c.self.inside.range; last_given = c.self.inside.last_given; records = c.self.inside.records } in
     let event : BookEvent = End conn c.args.generation c.args.serial c.args.outcome in
     let r = c.in-Some.record.now in
     let found : record_at conn book ≡ Some r = sym c.in-Some.ensures.value in
     let made : c.end.new.self ≡ record_after event Done r = c.in_ok-end.ensures.ok conn c.args.generation in
-    kept_after event Done conn c.self.inside.given r c.end.new.self book.records _ c.self.inside.deadlines refl refl found made refl c.self.invariant
+    kept_after event Done conn c.self.inside.last_given r c.end.new.self book.records _ c.self.inside.deadlines refl refl found made refl c.self.invariant
 
 pub returns-clause-new : goal.returns-clause-new
 returns-clause-new c =
     let conn = c.conn.inside.0 in
-    let book : Book = record { given = c.self.inside.given; records = c.self.inside.records } in
+    let book : Book = record { range = c.self.inside.range; last_given = c.self.inside.last_given; records = c.self.inside.records } in
     let event : BookEvent = End conn c.args.generation c.args.serial c.args.outcome in
     let r = c.in-Some.record.now in
     let found : record_at conn book ≡ Some r = sym c.in-Some.ensures.value in

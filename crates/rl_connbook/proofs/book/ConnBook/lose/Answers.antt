@@ -12,7 +12,7 @@ use Rattle.rl_connbook.proofs.book.ConnBook.lose.Goals as goal
 pub returns-in_default-clause-new : goal.returns-in_default-clause-new
 returns-in_default-clause-new c =
     let conn = c.conn.inside.0 in
-    let book : Book = record { given = c.self.inside.given; records = c.self.inside.records } in
+    let book : Book = record { range = c.self.inside.range; last_given = c.self.inside.last_given; records = c.self.inside.records } in
     let event : BookEvent = Lost conn c.args.generation c.args.now in
     let found : record_at conn book ≡ None = sym c.in_default.ensures.value in
     rw (← c.self.view_is, ← c.conn.view_is) (unchanged event NoRecord book (at_none c.args.generation (λ _. Done) (record_at conn book) found) refl (λ es. refl) (λ r. refl))
@@ -20,16 +20,16 @@ returns-in_default-clause-new c =
 pub invariant_of-self-then-generation-record : goal.invariant_of-self-then-generation-record
 invariant_of-self-then-generation-record c =
     let conn = c.conn.inside.0 in
-    let book : Book = record { given = c.self.inside.given; records = c.self.inside.records } in
+    let book : Book = record { range = c.self.inside.range; last_given = c.self.inside.last_given; records = c.self.inside.records } in
     let event : BookEvent = Lost conn c.args.generation c.args.now in
     let r = c.in-Some.record.now in
     let found : record_at conn book ≡ Some r = sym c.in-Some.ensures.value in
-    kept_after event (Superseded r.generation) conn c.self.inside.given r r book.records _ c.self.inside.deadlines refl refl found refl refl c.self.invariant
+    kept_after event (Superseded r.generation) conn c.self.inside.last_given r r book.records _ c.self.inside.deadlines refl refl found refl refl c.self.invariant
 
 pub returns-then-generation-record-clause-new : goal.returns-then-generation-record-clause-new
 returns-then-generation-record-clause-new c =
     let conn = c.conn.inside.0 in
-    let book : Book = record { given = c.self.inside.given; records = c.self.inside.records } in
+    let book : Book = record { range = c.self.inside.range; last_given = c.self.inside.last_given; records = c.self.inside.records } in
     let event : BookEvent = Lost conn c.args.generation c.args.now in
     let r = c.in-Some.record.now in
     let found : record_at conn book ≡ Some r = sym c.in-Some.ensures.value in
@@ -39,17 +39,17 @@ returns-then-generation-record-clause-new c =
 pub invariant_of-self-2 : goal.invariant_of-self-2
 invariant_of-self-2 c =
     let conn = c.conn.inside.0 in
-    let book : Book = record { given = c.self.inside.given; records = c.self.inside.records } in
+    let book : Book = record { range = c.self.inside.range; last_given = c.self.inside.last_given; records = c.self.inside.records } in
     let event : BookEvent = Lost conn c.args.generation c.args.now in
     let r = c.in-Some.record.now in
     let found : record_at conn book ≡ Some r = sym c.in-Some.ensures.value in
     let made : c.lose.new.self ≡ record_after event Done r = c.lose.ensures conn c.args.generation in
-    kept_moved event Done conn c.self.inside.given c.due-due.result r c.lose.new.self book.records _ c.self.inside.deadlines c.postpone.new.deadlines refl found made refl c.due-due.ensures c.postpone.ensures c.self.invariant
+    kept_moved event Done conn c.self.inside.last_given c.due-due.result r c.lose.new.self book.records _ c.self.inside.deadlines c.postpone.new.deadlines refl found made refl c.due-due.ensures c.postpone.ensures c.self.invariant
 
 pub returns-clause-new : goal.returns-clause-new
 returns-clause-new c =
     let conn = c.conn.inside.0 in
-    let book : Book = record { given = c.self.inside.given; records = c.self.inside.records } in
+    let book : Book = record { range = c.self.inside.range; last_given = c.self.inside.last_given; records = c.self.inside.records } in
     let event : BookEvent = Lost conn c.args.generation c.args.now in
     let r = c.in-Some.record.now in
     let found : record_at conn book ≡ Some r = sym c.in-Some.ensures.value in

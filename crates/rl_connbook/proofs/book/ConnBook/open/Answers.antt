@@ -14,34 +14,34 @@ pub returns-then-is_full-clause-new : goal.returns-then-is_full-clause-new
 returns-then-is_full-clause-new c = λ now. full_same c.args.word now c.args.self.now (sym c.is_full.ensures ∙ c.if-is_full.true)
 
 pub insert-requires : goal.insert-requires
-insert-requires c = none_above (c.self.inside.given + 1) c.self.inside.given c.self.inside.records (omega arith) c.self.invariant.sound.below
+insert-requires c = none_above (c.self.inside.last_given + 1) c.self.inside.last_given c.self.inside.records (omega arith) c.self.invariant.sound.below
 
 pub invariant_of-self-then-is_err : goal.invariant_of-self-then-is_err
 invariant_of-self-then-is_err c =
     let failed : is_err c.insert.result ≡ true = sym c.is_err.ensures.value ∙ c.if-is_err.true in
     let same : c.insert.new.self ≡ c.self.inside.records = err_of _ _ c.insert.ensures.err failed in
-    let none = none_above (c.self.inside.given + 1) c.self.inside.given c.self.inside.records (omega arith) c.self.invariant.sound.below in
-    let back = kept_back c.self.inside.given (c.self.inside.given + 1) c.due.result c.self.inside.records c.self.inside.deadlines c.set.new.self c.cancel.new.self none c.in_ok-set.ensures.ok c.cancel.ensures c.self.invariant in
-    subst (λ (es : List (ℕ × Record)). IsKept c.self.inside.given es c.cancel.new.self) (sym same) back
+    let none = none_above (c.self.inside.last_given + 1) c.self.inside.last_given c.self.inside.records (omega arith) c.self.invariant.sound.below in
+    let back = kept_back c.self.inside.last_given (c.self.inside.last_given + 1) c.due.result c.self.inside.records c.self.inside.deadlines c.set.new.self c.cancel.new.self none c.in_ok-set.ensures.ok c.cancel.ensures c.self.invariant in
+    subst (λ (es : List (ℕ × Record)). IsKept c.self.inside.last_given es c.cancel.new.self) (sym same) back
 
 pub invariant_of-self-2 : goal.invariant_of-self-2
 invariant_of-self-2 c =
-    let given = c.self.inside.given in
+    let last = c.self.inside.last_given in
     let room = room_left c.args.self.now (sym c.is_full.ensures ∙ c.if-is_full.false) in
-    let small : given + 1 < 2 ^ 32 = rw (← c.self.view_is) at room in
+    let small : last + 1 < 2 ^ 32 = search (rules, room) in
     let made : c.new-record.result ≡ new_record c.in_ok-key.key = search rules in
-    let key : c.new-record.result.key ≡ key_text (given + 1) c.args.word = ap (λ (r : Record). r.key) made ∙ c.in_ok-key.ensures in
+    let key : c.new-record.result.key ≡ key_text (last + 1) c.args.word = ap (λ (r : Record). r.key) made ∙ c.in_ok-key.ensures in
     let done : is_err c.insert.result ≡ false = sym c.is_err.ensures.value ∙ c.if-is_err.false in
-    kept_new (given + 1) given c.args.word c.due.result c.new-record.result c.self.inside.records c.insert.new.self c.self.inside.deadlines c.set.new.self refl small key (ok_of _ _ c.insert.ensures.ok done) c.due.ensures c.in_ok-set.ensures.ok c.self.invariant
+    kept_new (last + 1) last c.args.word c.due.result c.new-record.result c.self.inside.records c.insert.new.self c.self.inside.deadlines c.set.new.self refl small key (ok_of _ _ c.insert.ensures.ok done) c.due.ensures c.in_ok-set.ensures.ok c.self.invariant
 
 pub returns-clause-new : goal.returns-clause-new
 returns-clause-new c =
-    let given = c.self.inside.given in
-    let book : Book = record { given = given; records = c.self.inside.records } in
+    let last = c.self.inside.last_given in
+    let book : Book = record { range = c.self.inside.range; last_given = last; records = c.self.inside.records } in
     let full = sym c.is_full.ensures ∙ c.if-is_full.false in
     let room : is_full book ≡ false = rw (← c.self.view_is) at full in
     let made : c.new-record.result ≡ new_record c.in_ok-key.key = search rules in
-    let key : c.new-record.result ≡ new_record (key_text (given + 1) c.args.word) = made ∙ ap new_record c.in_ok-key.ensures in
+    let key : c.new-record.result ≡ new_record (key_text (last + 1) c.args.word) = made ∙ ap new_record c.in_ok-key.ensures in
     let done : is_err c.insert.result ≡ false = sym c.is_err.ensures.value ∙ c.if-is_err.false in
-    let set = ok_of _ _ c.insert.ensures.ok done ∙ inserted_last (given + 1) given c.new-record.result c.self.inside.records refl c.self.invariant.sound.below in
+    let set = ok_of _ _ c.insert.ensures.ok done ∙ inserted_last (last + 1) last c.new-record.result c.self.inside.records refl c.self.invariant.sound.below in
     rw (← c.self.view_is) (λ now. opened_new c.args.word now book c.new-record.result c.insert.new.self room key set)
