@@ -1,5 +1,5 @@
 -- What the table of a channel says of single states and events.
-use Rattle.std.specs.Prelude.{ℕ, Bool, true, false, ◌≡◌, ◌≢◌, ◌⊎◌}
+use Rattle.std.specs.Prelude.{Bool, true, false, ◌≡◌, ◌≢◌, ◌⊎◌}
 use Rattle.rl_types.specs.declared.states.ChanState.{ChanState}
 use Rattle.rl_types.specs.declared.states.ChanState.TheVariants as chan
 use Rattle.rl_types.specs.declared.states.ConnState.{ConnState}

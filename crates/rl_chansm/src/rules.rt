@@ -114,8 +114,8 @@ pub fn sends_detach(state: ChanState, event: ChanEvent) -> bool
     ensures { result ≡ rules.sends_detach state event }
 {
     match event {
-        ChanEvent::DetachAsked { connected } =>
-            connected && matches!(state, ChanState::Attaching | ChanState::Attached),
+        ChanEvent::DetachAsked { connected } => connected
+            && matches!(state, ChanState::Attaching | ChanState::Attached),
         _ => false,
     }
 }

@@ -26,8 +26,8 @@ abbrev pub attach_refused : ConnState → Option ConnState
 attach_refused state = if is_down state then Some state else None
 
 -- what needs acknowledgement: publishing, presence and operations on objects (RTL6c4)
-abbrev pub push_refused : ConnState → Option ConnState
-push_refused state = if is_down state then Some state else None
+abbrev pub enqueue_refused : ConnState → Option ConnState
+enqueue_refused state = if is_down state then Some state else None
 
 -- Close is never refused (RTN12); in the states that are false it changes nothing
 abbrev pub closes : ConnState → Bool

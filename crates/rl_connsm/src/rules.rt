@@ -22,7 +22,11 @@ fn is_down(state: ConnState) -> bool
 pub fn connect_refused(state: ConnState) -> Option<ConnState>
     ensures { result ≡ rules.connect_refused state }
 {
-    if may_connect(state) { None } else { Some(state) }
+    if may_connect(state) {
+        None
+    } else {
+        Some(state)
+    }
 }
 
 /// The state with which Attach is refused: SUSPENDED, CLOSING, CLOSED or FAILED (RTL4b). Elsewhere it is not
@@ -35,8 +39,8 @@ pub fn attach_refused(state: ConnState) -> Option<ConnState>
 
 /// The state with which a command is refused that needs acknowledgement: publishing, presence and operations on
 /// objects in SUSPENDED, CLOSING, CLOSED or FAILED (RTL6c4). Elsewhere the state does not refuse it.
-pub fn push_refused(state: ConnState) -> Option<ConnState>
-    ensures { result ≡ rules.push_refused state }
+pub fn enqueue_refused(state: ConnState) -> Option<ConnState>
+    ensures { result ≡ rules.enqueue_refused state }
 {
     if is_down(state) { Some(state) } else { None }
 }

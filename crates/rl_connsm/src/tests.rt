@@ -1,8 +1,9 @@
 // The table of a connection, pair by pair, and what its states say.
 use crate::{
-    ConnEvent, attach_refused, awaits_connected, awaits_ttl, brings_key, closes, conn_step, connect_refused,
-    drops_link, forgets_connection, from_suspended_after, gives_recovery_key, is_connected, leaves_connected,
-    loses_link, may_connect, may_recover, opens_link, push_refused, restarts_ttl, takes_acknowledgements,
+    ConnEvent, attach_refused, awaits_connected, awaits_ttl, brings_key, closes, conn_step,
+    connect_refused, drops_link, enqueue_refused, forgets_connection, from_suspended_after,
+    gives_recovery_key, is_connected, leaves_connected, loses_link, may_connect, may_recover,
+    opens_link, restarts_ttl, takes_acknowledgements,
 };
 use rl_types::ConnState;
 
@@ -122,7 +123,7 @@ fn says(word: &str, state: ConnState) -> bool {
     match word {
         "refuses Connect" => connect_refused(state) == Some(state),
         "refuses Attach" => attach_refused(state) == Some(state),
-        "refuses to publish" => push_refused(state) == Some(state),
+        "refuses to publish" => enqueue_refused(state) == Some(state),
         "closes" => closes(state),
         "recovers" => may_recover(state),
         "sends" => is_connected(state),

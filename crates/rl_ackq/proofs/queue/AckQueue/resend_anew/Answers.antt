@@ -1,4 +1,4 @@
-use Rattle.std.proofs.Common.{◌≡◌, arith, add-one}
+use Rattle.std.proofs.Common.{arith, add-one}
 use Rattle.rl_ackq.proofs.Numbers.{anew_more}
 use Rattle.rl_ackq.proofs.queue.AckQueue.resend_anew.Goals as goal
 
