@@ -1,6 +1,7 @@
 -- The queue of the frames that await acknowledgement (RTN7).
-use Rattle.std.specs.Prelude.{ℕ, ◌+◌, ◌-◌, ◌^◌, ◌≡◌, ◌≤◌, Bool, not, ◌&&◌, ◌||◌, ◌==◌, nat_le, nat_lt, List, [], ◌∷◌, ◌++◌, length, map, filter, Some}
+use Rattle.std.specs.Prelude.{ℕ, ◌+◌, ◌≡◌, ◌≤◌, Bool, not, ◌&&◌, ◌||◌, ◌==◌, nat_le, nat_lt, List, [], ◌∷◌, ◌++◌, length, map, filter, Some}
 use Rattle.std.specs.List.{AllByRecursion}
+use Rattle.rl_numbers.specs.declared.limits.TheConstants.{MAX_MESSAGE_SERIAL, MAX_PENDING}
 use Rattle.rl_types.specs.declared.frames.Frame.{Frame}
 use Rattle.rl_ackq.specs.declared.pending.Pending.{Pending}
 use Rattle.rl_ackq.specs.Frames.{serial_in, with_serial}
@@ -14,9 +15,9 @@ pub record Queue : Type 0 where
 abbrev pub new_queue : Queue
 new_queue = record { pending = []; next = 0 }
 
--- 1,000 frames are pending, or there is no serial left
+-- as many frames are pending as may be, or there is no serial left
 abbrev pub is_full : Queue → Bool
-is_full queue = (length queue.pending == 1000) || (queue.next == (2 ^ 53 - 1))
+is_full queue = (length queue.pending == MAX_PENDING) || (queue.next == MAX_MESSAGE_SERIAL)
 
 -- a frame that is pending with this serial, which its head has too
 abbrev pub pending_as : ℕ → Frame → Pending
@@ -55,6 +56,10 @@ started_at serial = record { pending = []; next = serial }
 abbrev pub is_below : ℕ → Pending → Bool
 is_below serial one = nat_lt one.serial serial
 
+-- without the frames from this serial on, which is the next one again
+abbrev pub cut_at : ℕ → Queue → Queue
+cut_at serial queue = record { pending = filter (is_below serial) queue.pending; next = serial }
+
 -- WHAT HOLDS AT EVERY MOMENT
 
 -- the serials rise, from low on, and are below next
@@ -67,7 +72,7 @@ abbrev pub AreTold : List Pending → Type 0
 AreTold = AllByRecursion (λ (one : Pending). serial_in one.frame ≡ Some one.serial)
 
 pub record IsQueue (pending : List Pending) (next : ℕ) : Type 0 where
-  pub few : length pending ≤ 1000
-  pub small : next ≤ 2 ^ 53 - 1
+  pub few : length pending ≤ MAX_PENDING
+  pub small : next ≤ MAX_MESSAGE_SERIAL
   pub rise : RiseFrom 0 pending next
   pub told : AreTold pending

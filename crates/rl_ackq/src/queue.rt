@@ -1,21 +1,17 @@
-ghost use Rattle.std.specs.Prelude.{◌≡◌, ◌↔◌, ◌-◌, ◌^◌, ◌≤◌, [], true, false, length, filter, slice_range, IfOk, IfErr, OnOk, OnErr, IsTrue, if◌then◌else◌};
+ghost use Rattle.std.specs.Prelude.{◌≡◌, ◌↔◌, ◌≤◌, [], true, false, length, filter, slice_range, IfOk, IfErr, OnOk, OnErr, IsTrue, if◌then◌else◌};
 ghost use Rattle.std.specs.List.{remove_range};
 ghost use Rattle.rl_ackq.specs.declared.fault.PushFault.TheVariants as faults;
 ghost use Rattle.rl_ackq.specs.Frames.{is_acknowledged};
 ghost use Rattle.rl_ackq.specs.Queue as queue;
 
-use crate::{Pending, PushFault};
+use crate::PushFault;
+use crate::pending::{Pending, give_serial};
 use rl_ids::{Copied, List, NoMemory};
+use rl_numbers::limits::{MAX_MESSAGE_SERIAL, MAX_PENDING};
 use rl_types::Frame;
 use std::alloc::Global;
 use std::collections::VecDeque;
 use std::marker::Model;
-
-// The most frames that may be pending.
-const MOST_PENDING: usize = 1000;
-
-// The serial at which there is none left: 2^53 - 1, the greatest whole number that every JSON reader has.
-const LAST_SERIAL: u64 = 9_007_199_254_740_991;
 
 /// The frames that await acknowledgement, in order, and the next serial (RTN7b). The serials rise, and are
 /// below the next one; a frame is kept as it is sent, with its serial in its head.
@@ -59,7 +55,7 @@ impl AckQueue {
     /// How many frames are pending: at most 1,000.
     pub fn len(&self) -> usize
         ensures value { result ≡ length self.now.pending }
-        ensures few { result ≤ 1000 }
+        ensures few { result ≤ MAX_PENDING }
     {
         self.pending.len()
     }
@@ -75,7 +71,7 @@ impl AckQueue {
     pub fn is_full(&self) -> bool
         ensures { result ≡ queue.is_full self.now }
     {
-        self.pending.len() == MOST_PENDING || self.next == LAST_SERIAL
+        self.pending.len() == MAX_PENDING || self.next == MAX_MESSAGE_SERIAL
     }
 
     /// Takes a MESSAGE or PRESENCE frame behind the others, with the next serial, which goes into its head too,
@@ -97,6 +93,35 @@ impl AckQueue {
         Ok(serial)
     }
 
+    /// The serials of the pending frames among the `count` serials from `serial` on, in order: what an ACK or a
+    /// NACK of these settles (RTN7a). Serials of frames that are not pending are passed over. The queue is
+    /// unchanged: see [`take_out`](AckQueue::take_out).
+    pub fn covered_serials(
+        &self,
+        alloc: Global,
+        serial: u64,
+        count: u32,
+    ) -> Result<List<u64>, NoMemory>
+        ensures { IfOk result (λ serials. serials ≡ queue.settled_serials serial count self.now) }
+    {
+        let (first, past) = self.covered(serial, count);
+        let serials = self
+            .pending
+            .range(first..past)
+            .map(|one| one.serial)
+            .collect(alloc)?;
+        Ok(List::from_vec(serials))
+    }
+
+    /// Takes the pending frames with these `count` serials from `serial` on out of the queue (RTN7a). It takes no
+    /// memory.
+    pub fn take_out(&mut self, serial: u64, count: u32)
+        ensures { self.new ≡ queue.settled serial count self.old }
+    {
+        let (first, past) = self.covered(serial, count);
+        self.pending.drain(first..past);
+    }
+
     /// Takes the pending frames with these `count` serials from `serial` on out of the queue, and answers their
     /// serials in order: for ACK and NACK alike (RTN7a). Serials of frames that are not pending are passed
     /// over. All memory is taken before the first change: where there is none, the queue is as before.
@@ -105,14 +130,21 @@ impl AckQueue {
         ensures settled { OnOk result (self.new ≡ queue.settled serial count self.old) }
         ensures err { OnErr result (self.new ≡ self.old) }
     {
-        let (first, past) = self.covered(serial, count);
-        let serials = self
-            .pending
-            .range(first..past)
-            .map(|one| one.serial)
-            .collect(alloc)?;
-        self.pending.drain(first..past);
-        Ok(List::from_vec(serials))
+        let serials = self.covered_serials(alloc, serial, count)?;
+        self.take_out(serial, count);
+        Ok(serials)
+    }
+
+    /// Takes back what was pushed since the next serial was this one: drops the pending frames from this serial
+    /// on, and it is the next one again. It takes no memory. (This project's own: what fails behind a push is as
+    /// before.)
+    pub fn take_back(&mut self, serial: u64)
+        requires { serial ≤ self.old.next }
+        ensures { self.new ≡ queue.cut_at serial self.old }
+    {
+        let kept = self.below(serial);
+        self.pending.truncate(kept);
+        self.next = serial;
     }
 
     /// Copies of the pending frames in order, each with its serial in its head, to be sent again (RTN19a).
@@ -123,6 +155,21 @@ impl AckQueue {
         let mut frames = List::new(alloc);
         for at in 0..self.pending.len() {
             frames.push(self.pending[at].frame.copy(alloc)?)?;
+        }
+        Ok(frames)
+    }
+
+    /// Copies of the pending frames in order, with the serials from 0 in their heads: what
+    /// [`resend`](AckQueue::resend) gives of the queue that is numbered anew (RTN19a2). The queue is unchanged: see
+    /// [`renumber`](AckQueue::renumber).
+    pub fn resend_anew(&self, alloc: Global) -> Result<List<Frame>, NoMemory>
+        ensures { IfOk result (λ frames. frames ≡ queue.frames (queue.renumbered self.now).pending) }
+    {
+        let mut frames = List::new(alloc);
+        for at in 0..self.pending.len() {
+            let mut frame = self.pending[at].frame.copy(alloc)?;
+            give_serial(&mut frame, at as u64);
+            frames.push(frame)?;
         }
         Ok(frames)
     }
@@ -139,7 +186,7 @@ impl AckQueue {
     /// Begins an empty queue at this serial, which is at most 2^53 - 1 (RTN16f).
     pub fn start_at(&mut self, serial: u64)
         requires empty { self.old.pending ≡ [] }
-        requires small { serial ≤ 2 ^ 53 - 1 }
+        requires small { serial ≤ MAX_MESSAGE_SERIAL }
         ensures { self.new ≡ queue.started_at serial }
     {
         self.next = serial;
@@ -155,19 +202,6 @@ impl AckQueue {
         self.pending.clear();
         self.next = 0;
         count
-    }
-}
-
-impl Copied for AckQueue {
-    fn copy(&self, alloc: Global) -> Result<AckQueue, NoMemory> {
-        let mut pending = VecDeque::new(alloc);
-        for at in 0..self.pending.len() {
-            pending.push_back(self.pending[at].copy(alloc)?)?;
-        }
-        Ok(AckQueue {
-            pending,
-            next: self.next,
-        })
     }
 }
 

@@ -1,2 +1,5 @@
+pub mod Connection
 pub mod Laws
+pub mod Owed
+pub mod Rules
 pub mod Table

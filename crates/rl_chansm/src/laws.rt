@@ -1,5 +1,5 @@
 //! Laws over the table alone. Each is a function that does nothing: its contract is the law.
-ghost use Rattle.rl_chansm.specs.Laws.{AttachedByTheService, NeverInitializedAgain, RestsAfterTheConnection, RestsUntilAttach, SuspendedWithTheConnection};
+ghost use Rattle.rl_chansm.specs.Laws.{AnswersThatCount, AttachedByTheService, AwaitsNothingWhereForgotten, AwaitsWhatItAsked, CommandsThatCount, GivenUpWithTheConnection, NeverInitializedAgain, RestsAfterTheConnection, RestsUntilAttach, SuspendedWithTheConnection};
 
 /// INITIALIZED, DETACHED and FAILED are left only where the client attaches (RTL4).
 #[tactic(auto, using(crate::proofs::Cases::rests_until_attach))]
@@ -30,4 +30,37 @@ pub fn attached_by_the_service()
 #[tactic(auto, using(crate::proofs::Cases::never_initialized_again))]
 pub fn never_initialized_again()
     ensures { NeverInitializedAgain }
+{}
+
+/// Attach and Detach move the channel exactly where they are said to do anything (RTL4, RTL5).
+#[tactic(auto, using(crate::proofs::Cases::commands_that_count))]
+pub fn commands_that_count()
+    ensures { CommandsThatCount }
+{}
+
+/// What is sent is then awaited: ATTACH in ATTACHING, DETACH in DETACHING; and in a CONNECTED connection a channel
+/// comes to these states only by sending (RTL4c, RTL5d).
+#[tactic(auto, using(crate::proofs::Cases::awaits_what_it_asked))]
+pub fn awaits_what_it_asked()
+    ensures { AwaitsWhatItAsked }
+{}
+
+/// ATTACHED, DETACHED and ERROR move the channel exactly where they are said to be awaited (RTL4c, RTL5d, RTL14).
+#[tactic(auto, using(crate::proofs::Cases::answers_that_count))]
+pub fn answers_that_count()
+    ensures { AnswersThatCount }
+{}
+
+/// Where no serial is held no answer is awaited and no entry is got; where there are no members no serial is held
+/// (RTL15b1, RTP5a).
+#[tactic(auto, using(crate::proofs::Cases::awaits_nothing_where_forgotten))]
+pub fn awaits_nothing_where_forgotten()
+    ensures { AwaitsNothingWhereForgotten }
+{}
+
+/// Once the connection is suspended, closed or failed, no channel awaits an answer or holds a serial, but that an
+/// INITIALIZED one may hold one; and a link that goes takes each DETACH with it (RTL3).
+#[tactic(auto, using(crate::proofs::Cases::given_up_with_the_connection))]
+pub fn given_up_with_the_connection()
+    ensures { GivenUpWithTheConnection }
 {}

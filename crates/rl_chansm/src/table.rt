@@ -1,9 +1,7 @@
 ghost use Rattle.std.specs.Prelude.{◌≡◌};
 ghost use Rattle.rl_chansm.specs.Table.{chan_table};
 
-use rl_ids::{Copied, NoMemory};
 use rl_types::ChanState;
-use std::alloc::Global;
 
 /// What happens to a channel of a client.
 #[derive(Clone, Copy, Debug, PartialEq, Eq)]
@@ -59,11 +57,5 @@ pub fn chan_step(state: ChanState, event: ChanEvent) -> ChanState
         (ConnClosed, Attaching | Attached | Detaching | Suspended) => Detached,
         (ConnFailed, Attaching | Attached | Detaching | Suspended) => Failed,
         (_, same) => same,
-    }
-}
-
-impl Copied for ChanEvent {
-    fn copy(&self, _alloc: Global) -> Result<ChanEvent, NoMemory> {
-        Ok(*self)
     }
 }

@@ -1,6 +1,21 @@
-// The table of a channel, pair by pair.
-use crate::{ChanEvent, chan_step};
-use rl_types::ChanState;
+// The table of a channel, pair by pair, and what its states say.
+use crate::{
+    ChanEvent, after_connection, attach_at_refused, attaches, awaits_attached, awaits_detached,
+    chan_step, clears_channel, comes_up, detach_refused, detaches, event_of, forgets_serial,
+    is_attached, lowered, operate_refused, presence_refused, publish_refused, raised, sends_attach,
+    sends_detach, takes_attached, takes_detached, takes_error, takes_unasked,
+};
+use rl_types::{ChanState, ConnState};
+
+const STATES: [ChanState; 7] = [
+    ChanState::Initialized,
+    ChanState::Attaching,
+    ChanState::Attached,
+    ChanState::Detaching,
+    ChanState::Detached,
+    ChanState::Suspended,
+    ChanState::Failed,
+];
 
 fn state_name(state: ChanState) -> &'static str {
     match state {
@@ -79,15 +94,7 @@ fn wanted(state: &'static str, event: &str) -> &'static str {
 
 #[test]
 fn every_pair_of_state_and_event(rt: HostRuntime) {
-    for state in [
-        ChanState::Initialized,
-        ChanState::Attaching,
-        ChanState::Attached,
-        ChanState::Detaching,
-        ChanState::Detached,
-        ChanState::Suspended,
-        ChanState::Failed,
-    ] {
+    for state in STATES {
         for event in [
             ChanEvent::AttachAsked,
             ChanEvent::DetachAsked { connected: true },
@@ -109,4 +116,94 @@ fn every_pair_of_state_and_event(rt: HostRuntime) {
             );
         }
     }
+}
+
+fn says(word: &str, state: ChanState) -> bool {
+    let detach = ChanEvent::DetachAsked { connected: true };
+    match word {
+        "refuses AttachAt" => attach_at_refused(Some(state)) == Some(state),
+        "refuses Detach" => detach_refused(state) == Some(state),
+        "refuses to publish" => publish_refused(state) == Some(state),
+        "refuses to operate" => operate_refused(state) == Some(state),
+        "refuses to enter" => presence_refused(state) == Some(state),
+        "attaches" => attaches(state),
+        "detaches" => detaches(state),
+        "gets entries" => is_attached(state),
+        "comes up" => comes_up(state),
+        "sends ATTACH" => sends_attach(true, state, ChanEvent::AttachAsked),
+        "sends DETACH" => sends_detach(state, detach),
+        "awaits ATTACHED" => awaits_attached(state),
+        "awaits DETACHED" => awaits_detached(state),
+        "takes ATTACHED" => takes_attached(1, state),
+        "takes DETACHED" => takes_detached(1, state),
+        "takes ERROR" => takes_error(0, state),
+        "takes what is not owed" => takes_unasked(0, state),
+        "forgets" => forgets_serial(state),
+        _ => clears_channel(state),
+    }
+}
+
+#[test]
+fn what_each_state_says(rt: HostRuntime) {
+    for (word, states) in [
+        (
+            "refuses AttachAt",
+            "INITIALIZED ATTACHING ATTACHED DETACHING DETACHED SUSPENDED FAILED",
+        ),
+        ("refuses Detach", "FAILED"),
+        ("refuses to publish", "SUSPENDED FAILED"),
+        ("refuses to operate", "DETACHED SUSPENDED FAILED"),
+        (
+            "refuses to enter",
+            "INITIALIZED ATTACHING DETACHING DETACHED SUSPENDED FAILED",
+        ),
+        (
+            "attaches",
+            "INITIALIZED DETACHING DETACHED SUSPENDED FAILED",
+        ),
+        ("detaches", "ATTACHING ATTACHED SUSPENDED"),
+        ("gets entries", "ATTACHED"),
+        ("comes up", "ATTACHING ATTACHED SUSPENDED"),
+        (
+            "sends ATTACH",
+            "INITIALIZED DETACHING DETACHED SUSPENDED FAILED",
+        ),
+        ("sends DETACH", "ATTACHING ATTACHED"),
+        ("awaits ATTACHED", "ATTACHING"),
+        ("awaits DETACHED", "DETACHING"),
+        ("takes ATTACHED", "ATTACHING"),
+        ("takes DETACHED", "DETACHING"),
+        ("takes ERROR", "ATTACHING ATTACHED DETACHING"),
+        ("takes what is not owed", "ATTACHED"),
+        ("forgets", "DETACHED SUSPENDED FAILED"),
+        ("clears", "DETACHED FAILED"),
+    ] {
+        for state in STATES {
+            assert_eq!(rt; says(word, state), has_word(states, state_name(state)));
+        }
+    }
+}
+
+#[test]
+fn the_last_answer_that_is_owed_is_taken(rt: HostRuntime) {
+    assert_eq!(rt; raised(0), 1);
+    assert_eq!(rt; raised(u64::MAX), u64::MAX);
+    assert_eq!(rt; lowered(2), 1);
+    assert_eq!(rt; lowered(u64::MAX), u64::MAX);
+    assert!(rt; !takes_attached(2, ChanState::Attaching));
+    assert!(rt; !takes_attached(0, ChanState::Attaching));
+}
+
+#[test]
+fn a_lost_link_is_told_before_the_failure(rt: HostRuntime) {
+    let (before, after) = (ConnState::Connected, ConnState::Failed);
+    assert!(rt; event_of(before, after) == Some(ChanEvent::ConnFailed));
+    assert_eq!(rt;
+        state_name(after_connection(ChanState::Detaching, true, before, after)),
+        "DETACHED"
+    );
+    assert_eq!(rt;
+        state_name(after_connection(ChanState::Detaching, false, before, after)),
+        "FAILED"
+    );
 }

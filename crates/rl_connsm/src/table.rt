@@ -1,9 +1,7 @@
 ghost use Rattle.std.specs.Prelude.{◌≡◌};
 ghost use Rattle.rl_connsm.specs.Table as table;
 
-use rl_ids::{Copied, NoMemory};
 use rl_types::ConnState;
-use std::alloc::Global;
 
 /// What happens to a connection.
 #[derive(Clone, Copy, Debug, PartialEq, Eq)]
@@ -87,10 +85,4 @@ pub fn drops_link(before: ConnState, after: ConnState) -> bool
             after,
             ConnState::Connecting | ConnState::Connected | ConnState::Closing
         )
-}
-
-impl Copied for ConnEvent {
-    fn copy(&self, _alloc: Global) -> Result<ConnEvent, NoMemory> {
-        Ok(*self)
-    }
 }

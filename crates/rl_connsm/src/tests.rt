@@ -1,6 +1,22 @@
-// The table of a connection, pair by pair.
-use crate::{ConnEvent, conn_step, drops_link, from_suspended_after, may_connect};
+// The table of a connection, pair by pair, and what its states say.
+use crate::{
+    ConnEvent, attach_refused, awaits_connected, awaits_ttl, brings_key, closes, conn_step,
+    connect_refused, drops_link, enqueue_refused, forgets_connection, from_suspended_after,
+    gives_recovery_key, is_connected, leaves_connected, loses_link, may_connect, may_recover,
+    opens_link, restarts_ttl, takes_acknowledgements,
+};
 use rl_types::ConnState;
+
+const STATES: [ConnState; 8] = [
+    ConnState::Initialized,
+    ConnState::Connecting,
+    ConnState::Connected,
+    ConnState::Disconnected,
+    ConnState::Suspended,
+    ConnState::Closing,
+    ConnState::Closed,
+    ConnState::Failed,
+];
 
 fn state_name(state: ConnState) -> &'static str {
     match state {
@@ -81,16 +97,7 @@ fn wanted(state: &'static str, from_suspended: bool, event: &str) -> &'static st
 
 #[test]
 fn every_pair_of_state_and_event(rt: HostRuntime) {
-    for state in [
-        ConnState::Initialized,
-        ConnState::Connecting,
-        ConnState::Connected,
-        ConnState::Disconnected,
-        ConnState::Suspended,
-        ConnState::Closing,
-        ConnState::Closed,
-        ConnState::Failed,
-    ] {
+    for state in STATES {
         for event in [
             ConnEvent::Connect,
             ConnEvent::Connected,
@@ -112,12 +119,57 @@ fn every_pair_of_state_and_event(rt: HostRuntime) {
     }
 }
 
+fn says(word: &str, state: ConnState) -> bool {
+    match word {
+        "refuses Connect" => connect_refused(state) == Some(state),
+        "refuses Attach" => attach_refused(state) == Some(state),
+        "refuses to publish" => enqueue_refused(state) == Some(state),
+        "closes" => closes(state),
+        "recovers" => may_recover(state),
+        "sends" => is_connected(state),
+        "awaits CONNECTED" => awaits_connected(state),
+        "takes ACK" => takes_acknowledgements(state),
+        "forgets" => forgets_connection(state),
+        "brings its key" => brings_key(state),
+        "gives no key" => !gives_recovery_key(state),
+        "awaits its end" => awaits_ttl(state),
+        _ => restarts_ttl(state),
+    }
+}
+
+#[test]
+fn what_each_state_says(rt: HostRuntime) {
+    for (word, states) in [
+        ("refuses Connect", "CONNECTING CONNECTED CLOSING"),
+        ("refuses Attach", "SUSPENDED CLOSING CLOSED FAILED"),
+        ("refuses to publish", "SUSPENDED CLOSING CLOSED FAILED"),
+        (
+            "closes",
+            "INITIALIZED CONNECTING CONNECTED DISCONNECTED SUSPENDED",
+        ),
+        ("recovers", "INITIALIZED"),
+        ("sends", "CONNECTED"),
+        ("awaits CONNECTED", "CONNECTING"),
+        ("takes ACK", "CONNECTED CLOSING"),
+        ("forgets", "SUSPENDED CLOSED FAILED"),
+        ("brings its key", "INITIALIZED DISCONNECTED"),
+        ("gives no key", "CLOSING"),
+        ("awaits its end", "CONNECTING DISCONNECTED"),
+        ("restarts", "INITIALIZED SUSPENDED CLOSED FAILED"),
+    ] {
+        for state in STATES {
+            assert_eq!(rt; says(word, state), has_word(states, state_name(state)));
+        }
+    }
+}
+
 #[test]
 fn a_suspended_connection_connects(rt: HostRuntime) {
     assert!(rt; may_connect(ConnState::Suspended));
-    assert!(rt; !may_connect(ConnState::Closing));
     assert!(rt; from_suspended_after(ConnState::Suspended, false, ConnEvent::Connect));
-    assert!(rt; !from_suspended_after(ConnState::Disconnected, true, ConnEvent::Connect));
+    assert!(rt; opens_link(ConnState::Suspended, ConnState::Connecting));
     assert!(rt; drops_link(ConnState::Connecting, ConnState::Suspended));
-    assert!(rt; !drops_link(ConnState::Connected, ConnState::Closing));
+    assert!(rt; loses_link(ConnEvent::Down, ConnState::Closing, ConnState::Closed));
+    assert!(rt; !loses_link(ConnEvent::ClosedGot, ConnState::Closing, ConnState::Closed));
+    assert!(rt; leaves_connected(ConnState::Connected, ConnState::Closing));
 }
