@@ -106,7 +106,7 @@ numbers_are_given_once = record {
 }
 
 pub limits_are_reached : LimitsAreReached
-limits_are_reached range past event count given is = limit_reached range event (decided range (reverse past)) count given (bound_all range (reverse past)) (count_all range (reverse past)) is
+limits_are_reached range past event count given some is = limit_reached range event (decided range (reverse past)) count given (bound_all range (reverse past)) (count_all range (reverse past)) some is
 
 pub gone_numbers_stay_away : GoneNumbersStayAway
 gone_numbers_stay_away = record {

@@ -11,7 +11,7 @@ use Rattle.rl_types.specs.declared.book.BookReply.TheVariants.{Opened, Limit}
 use Rattle.rl_connbook.specs.declared.range.NumberRange.{NumberRange}
 use Rattle.rl_connbook.specs.declared.record.Record.{Record}
 use Rattle.rl_connbook.specs.Records.{Answered, concerns, story, record_of, record_of_story}
-use Rattle.rl_connbook.specs.Book.{Book, book_of, numbers, numbers_after, last_number, is_opened, is_over, told, answered, decided, book_after, given, is_full, opened_as}
+use Rattle.rl_connbook.specs.Book.{Book, book_of, numbers, numbers_after, last_number, is_opened, is_over, told, answered, decided, book_after, is_full, opened_as}
 use Rattle.rl_connbook.specs.Steps.{after, record_after, entry_after, records_after, new_record}
 
 -- ONE RECORD
@@ -136,7 +136,7 @@ follows_by word now last count given true = tt
 follows_by word now last count given false = refl
 
 pub follows : (event : BookEvent) (book : Book) → Follows event (told book event) book.last_given
-follows (Open word now) book = follows_by word now book.last_given (length book.records) (given book) (is_full book)
+follows (Open word now) book = follows_by word now book.last_given (length book.records) book.last_given (is_full book)
 follows (Resume key now) book = tt
 follows (Begin conn generation serial) book = tt
 follows (End conn generation serial outcome) book = tt

@@ -1,6 +1,6 @@
 -- Numbers are given once, rise, and never come back. All but the last section is said of one event after any list of
 -- answered events, where its reply is the one that the definitions give.
-use Rattle.std.proofs.Common.{◌≡◌, ◌⊎◌, inl, inr, ℕ, ◌+◌, ◌-◌, ◌≤◌, ◌<◌, max, Bool, true, false, true≢false, cond, List, [], ◌∷◌, ◌++◌, length, map, refl, ap, sym, subst, ◌∙◌, arith}
+use Rattle.std.proofs.Common.{◌≡◌, ◌⊎◌, inl, inr, ℕ, ◌+◌, ◌≤◌, ◌<◌, max, Bool, true, false, true≢false, cond, List, [], ◌∷◌, ◌++◌, length, map, refl, ap, sym, subst, ◌∙◌, arith}
 use Rattle.std.specs.Prelude.{Option, Some, None, not, ◌==◌, ◌&&◌, ◌||◌, if◌then◌else◌, nat_lt, nat_le, find}
 use Rattle.std.specs.List.{AllByRecursion, filter}
 use Rattle.std.proofs.lemmas.Bool.Decides.{nat_tests}
@@ -14,7 +14,7 @@ use Rattle.rl_numbers.specs.declared.limits.TheConstants.{MAX_CONNECTIONS}
 use Rattle.rl_connbook.specs.declared.range.NumberRange.{NumberRange}
 use Rattle.rl_connbook.specs.declared.record.Record.{Record}
 use Rattle.rl_connbook.specs.Records.{Answered, record_of, raised}
-use Rattle.rl_connbook.specs.Book.{Book, book_of, numbers, numbers_after, last_number, is_opened, is_over, is_over_by, told, answered, decided, given, is_full, opened_as, record_at, at_record, begun, known, kept_outcome, may_resume, resumed, has_key}
+use Rattle.rl_connbook.specs.Book.{Book, book_of, numbers, numbers_after, last_number, is_opened, is_over, is_over_by, told, answered, decided, is_full, opened_as, record_at, at_record, begun, known, kept_outcome, may_resume, resumed, has_key}
 use Rattle.rl_connbook.specs.Laws.{IsIn, AreRising, Gives, given_up}
 use Rattle.rl_connbook.proofs.Each.{all_weaker, all_append, all_filter, all_some, some_weaker, some_split, some_filter}
 use Rattle.rl_connbook.proofs.History.{Follows, follows, last_more, last_step, last_grows}
@@ -102,7 +102,7 @@ new_by conn word last most count given false room gives = (sym gives, room refl)
 
 -- what is given is the next number, and one of the range
 pub new_number : (conn : ℕ) (event : BookEvent) (book : Book) → Gives conn (told book event) → (conn ≡ book.last_given + 1) × (book.last_given < book.range.last)
-new_number conn (Open word now) book gives = new_by conn word book.last_given book.range.last (length book.records) (given book) (is_full book) (room_left book) gives
+new_number conn (Open word now) book gives = new_by conn word book.last_given book.range.last (length book.records) book.last_given (is_full book) (room_left book) gives
 new_number conn (Resume key now) book gives = absurd (never conn _ (resumed_opens (find (has_key key) book.records)) gives)
 new_number conn (Begin n generation serial) book gives = absurd (never conn _ (record_opens generation (begun serial) (record_at n book) (begun_opens serial)) gives)
 new_number conn (End n generation serial outcome) book gives = absurd (never conn _ (record_opens generation (λ _. Done) (record_at n book) (λ r. refl)) gives)
@@ -171,7 +171,7 @@ place_left book h = grind (arith, nat_tests, h)
 
 -- where a connection is opened, fewer stand than may
 new_place : (conn : ℕ) (event : BookEvent) (book : Book) → Gives conn (told book event) → length book.records < MAX_CONNECTIONS
-new_place conn (Open word now) book gives = place_by conn word book.last_given (length book.records) (given book) (is_full book) (place_left book) gives
+new_place conn (Open word now) book gives = place_by conn word book.last_given (length book.records) book.last_given (is_full book) (place_left book) gives
 new_place conn (Resume key now) book gives = absurd (never conn _ (resumed_opens (find (has_key key) book.records)) gives)
 new_place conn (Begin n generation serial) book gives = absurd (never conn _ (record_opens generation (begun serial) (record_at n book) (begun_opens serial)) gives)
 new_place conn (End n generation serial outcome) book gives = absurd (never conn _ (record_opens generation (λ _. Done) (record_at n book) (λ r. refl)) gives)
@@ -199,9 +199,9 @@ full_by true b count last most one two is = inl (grind (arith, nat_tests, one))
 full_by false true count last most one two is = inr (grind (arith, nat_tests, two))
 full_by false false count last most one two is = absurd (cc)
 
-limit_of : (range : NumberRange) (count given last : ℕ) → range.after ≤ last → last ≤ max range.after range.last → count ≤ MAX_CONNECTIONS → given ≡ last - range.after → (MAX_CONNECTIONS ≤ count) ⊎ (range.last ≤ last) → (count ≡ MAX_CONNECTIONS) ⊎ (given ≡ range.last - range.after)
-limit_of range count given last low high few is (inl full) = inl (omega (arith, few, full))
-limit_of range count given last low high few is (inr none) = inr (omega (arith, low, high, is, none))
+limit_of : (range : NumberRange) (count given last : ℕ) → range.after ≤ last → last ≤ max range.after range.last → count ≤ MAX_CONNECTIONS → given ≡ last → range.after ≤ range.last → (MAX_CONNECTIONS ≤ count) ⊎ (range.last ≤ last) → (count ≡ MAX_CONNECTIONS) ⊎ (given ≡ range.last)
+limit_of range count given last low high few is some (inl full) = inl (omega (arith, few, full))
+limit_of range count given last low high few is some (inr none) = inr (omega (arith, high, is, some, none))
 
 no_limit_record : (generation count given : ℕ) (reply : Record → BookReply) (found : Option Record) → ((r : Record) → reply r ≡ Limit count given → ⊥) → at_record generation reply found ≡ Limit count given → ⊥
 no_limit_record generation count given reply None each is = cc
@@ -232,9 +232,9 @@ no_limit_begun serial count given r is = by_serial (serial == r.expected) (nat_l
     by_serial false false true is = cc
     by_serial false false false is = cc
 
--- a Limit comes where no connection more can be opened, and says how many stand and how many numbers were given
-limit_told : (event : BookEvent) (book : Book) (count_told given_told : ℕ) → told book event ≡ Limit count_told given_told → (is_full book ≡ true) × (count_told ≡ length book.records) × (given_told ≡ given book)
-limit_told (Open word now) book count given_told is = limit_by word book.last_given (length book.records) (given book) count given_told (is_full book) is
+-- a Limit comes where no connection more can be opened, and says how many stand and the last number given
+limit_told : (event : BookEvent) (book : Book) (count_told given_told : ℕ) → told book event ≡ Limit count_told given_told → (is_full book ≡ true) × (count_told ≡ length book.records) × (given_told ≡ book.last_given)
+limit_told (Open word now) book count given_told is = limit_by word book.last_given (length book.records) book.last_given count given_told (is_full book) is
 limit_told (Resume key now) book count given_told is = absurd (no_limit_resumed count given_told (find (has_key key) book.records) is)
 limit_told (Begin n generation serial) book count given_told is = absurd (no_limit_record generation count given_told (begun serial) (record_at n book) (λ r here. no_limit_begun serial count given_told r here) is)
 limit_told (End n generation serial outcome) book count given_told is = absurd (no_limit_record generation count given_told (λ _. Done) (record_at n book) (λ r here. cc) is)
@@ -242,15 +242,15 @@ limit_told (Lost n generation now) book count given_told is = absurd (no_limit_r
 limit_told (Close n generation) book count given_told is = absurd (no_limit_record generation count given_told (λ _. Done) (record_at n book) (λ r here. cc) is)
 limit_told (Expire now) book count given_told is = absurd (cc)
 
-pub limit_reached : (range : NumberRange) (event : BookEvent) (before : List Answered) (count_told given_told : ℕ) → last_number range before ≤ max range.after range.last → length (numbers before) ≤ MAX_CONNECTIONS
-    → told (book_of range before) event ≡ Limit count_told given_told → (count_told ≡ MAX_CONNECTIONS) ⊎ (given_told ≡ range.last - range.after)
-limit_reached range event before count_told given_told high few is =
+pub limit_reached : (range : NumberRange) (event : BookEvent) (before : List Answered) (count_told given_told : ℕ) → last_number range before ≤ max range.after range.last → length (numbers before) ≤ MAX_CONNECTIONS → range.after ≤ range.last
+    → told (book_of range before) event ≡ Limit count_told given_told → (count_told ≡ MAX_CONNECTIONS) ⊎ (given_told ≡ range.last)
+limit_reached range event before count_told given_told high few some is =
     let book = book_of range before in
     let told_so = limit_told event book count_told given_told is in
     let count : count_told ≡ length (numbers before) = told_so.1 ∙ as_many before (numbers before) in
     let full : (MAX_CONNECTIONS ≤ length book.records) ⊎ (range.last ≤ last_number range before) =
     full_by (nat_le MAX_CONNECTIONS (length book.records)) (nat_le range.last (last_number range before)) (length book.records) (last_number range before) range.last refl refl told_so.0 in
-    limit_of range count_told given_told (last_number range before) (omega arith) high (omega (arith, count, few)) told_so.2
+    limit_of range count_told given_told (last_number range before) (omega arith) high (omega (arith, count, few)) told_so.2 some
     (elim full [ inl many ↦ inl (omega (arith, many, told_so.1)) | inr none ↦ inr none ])
 
 -- A NUMBER THAT DOES NOT STAND ANY MORE NEVER COMES BACK

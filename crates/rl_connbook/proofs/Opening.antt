@@ -8,7 +8,7 @@ use Rattle.rl_types.specs.declared.book.BookReply.{BookReply}
 use Rattle.rl_types.specs.declared.book.BookReply.TheVariants.{Limit, NoRecord}
 use Rattle.rl_types.specs.declared.channel.Outcome.{Outcome}
 use Rattle.rl_connbook.specs.declared.record.Record.{Record}
-use Rattle.rl_connbook.specs.Book.{Book, given, is_full, opened, opened_as, is_opened, is_over, key_text}
+use Rattle.rl_connbook.specs.Book.{Book, is_full, opened, opened_as, is_opened, is_over, key_text}
 use Rattle.rl_connbook.specs.Sound.{IsSound, IsNumbered}
 use Rattle.rl_connbook.specs.Steps.{after, record_after, records_after, new_record}
 use Rattle.rl_connbook.proofs.Changes.{untouched}
@@ -21,11 +21,11 @@ end_none conn generation serial (Some outcome) r = refl
 pub room_left : (book : Book) → is_full book ≡ false → book.last_given < book.range.last
 room_left book h = grind (arith, nat_tests, h)
 
-opened_by : (word : ℕ) (book : Book) (b : Bool) → is_full book ≡ b → opened word book ≡ (if b then Limit (length book.records) (given book) else opened_as (book.last_given + 1) word)
-opened_by word book b h = ap (λ (c : Bool). if c then Limit (length book.records) (given book) else opened_as (book.last_given + 1) word) h
+opened_by : (word : ℕ) (book : Book) (b : Bool) → is_full book ≡ b → opened word book ≡ (if b then Limit (length book.records) book.last_given else opened_as (book.last_given + 1) word)
+opened_by word book b h = ap (λ (c : Bool). if c then Limit (length book.records) book.last_given else opened_as (book.last_given + 1) word) h
 
 pub full_same : (word now : ℕ) (book : Book) → is_full book ≡ true → book ≡ after book (Open word now)
-full_same word now book h = untouched (Open word now) (Limit (length book.records) (given book)) book (opened_by word book true h) refl (λ es. refl) (λ n. refl)
+full_same word now book h = untouched (Open word now) (Limit (length book.records) book.last_given) book (opened_by word book true h) refl (λ es. refl) (λ n. refl)
 
 pub opened_new : (word now : ℕ) (book : Book) (r : Record) (es : List (ℕ × Record)) → is_full book ≡ false → r ≡ new_record (key_text (book.last_given + 1) word) → es ≡ book.records ++ (book.last_given + 1, r) ∷ [] → record book { last_given = book.last_given + 1; records = es } ≡ after book (Open word now)
 opened_new word now book r es h made is =

@@ -1,5 +1,5 @@
 -- The book of connections: what it replies to an event after a history, where it gives the numbers of a range.
-use Rattle.std.specs.Prelude.{ℕ, ◌+◌, ◌-◌, Bool, true, false, not, ◌&&◌, ◌||◌, ◌==◌, nat_le, nat_lt, if◌then◌else◌, List, [], ◌∷◌, ◌++◌, length, map, reverse, find, bytes_eq, Option, Some, None}
+use Rattle.std.specs.Prelude.{ℕ, ◌+◌, Bool, true, false, not, ◌&&◌, ◌||◌, ◌==◌, nat_le, nat_lt, if◌then◌else◌, List, [], ◌∷◌, ◌++◌, length, map, reverse, find, bytes_eq, Option, Some, None}
 use Rattle.std.specs.List.{filter}
 use Rattle.std.specs.Map.{lookup}
 use Rattle.std.specs.BTreeMap.{is_at}
@@ -26,10 +26,6 @@ pub record Book : Type 0 where
   pub range : NumberRange
   pub last_given : ℕ
   pub records : List (ℕ × Record)
-
--- how many numbers were given
-abbrev pub given : Book → ℕ
-given book = book.last_given - book.range.after
 
 abbrev pub is_opened : BookReply → Bool
 is_opened (Opened conn generation key) = true
@@ -90,7 +86,7 @@ abbrev pub opened_as : ℕ → ℕ → BookReply
 opened_as conn word = Opened conn 1 (key_text conn word)
 
 abbrev pub opened : ℕ → Book → BookReply
-opened word book = if is_full book then Limit (length book.records) (given book) else opened_as (book.last_given + 1) word
+opened word book = if is_full book then Limit (length book.records) book.last_given else opened_as (book.last_given + 1) word
 
 -- a connection that is live or lost, and has this key
 abbrev pub has_key : List ℕ → ℕ × Record → Bool

@@ -41,4 +41,4 @@ pub record Replies : Type 0 where
       ≡ Opened 2097153 1 (codes "c00200001!0000000000000007") ∷ Go ∷ NoRecord ∷ Resumed 2097153 2 ∷ []
   -- the last number of a range is given, and none after it, also where connections have gone
   pub range_ends : replies_between 4194301 4194303 (Open 7 0 ∷ Open 8 0 ∷ Open 9 0 ∷ Close 4194302 1 ∷ Expire 0 ∷ Open 9 0 ∷ [])
-      ≡ Opened 4194302 1 (codes "c003ffffe!0000000000000007") ∷ Opened 4194303 1 (codes "c003fffff!0000000000000008") ∷ Limit 2 2 ∷ Done ∷ Expired (4194302 ∷ []) ∷ Limit 1 2 ∷ []
+      ≡ Opened 4194302 1 (codes "c003ffffe!0000000000000007") ∷ Opened 4194303 1 (codes "c003fffff!0000000000000008") ∷ Limit 2 4194303 ∷ Done ∷ Expired (4194302 ∷ []) ∷ Limit 1 4194303 ∷ []

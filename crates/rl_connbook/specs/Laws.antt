@@ -1,5 +1,5 @@
 -- Laws of the book, over every range of numbers and every list of events. A list of events has the earliest first.
-use Rattle.std.specs.Prelude.{◌≡◌, ℕ, ◌-◌, ◌≤◌, ◌<◌, ⊤, ◌⊎◌, List, [], ◌∷◌, ◌++◌, Some}
+use Rattle.std.specs.Prelude.{◌≡◌, ℕ, ◌≤◌, ◌<◌, ⊤, ◌⊎◌, List, [], ◌∷◌, ◌++◌, Some}
 use Rattle.std.specs.List.{AllByRecursion}
 use Rattle.rl_types.specs.declared.book.BookEvent.{BookEvent}
 use Rattle.rl_types.specs.declared.book.BookEvent.TheVariants.{Begin, End, Expire}
@@ -69,10 +69,10 @@ pub record NumbersAreGivenOnce : Type 0 where
   pub above : (range : NumberRange) (past more : List BookEvent) (earlier later : BookEvent) (first second : ℕ)
       → Gives first (reply_after range past earlier) → Gives second (reply_after range (past ++ earlier ∷ more) later) → first < second
 
--- an Open is refused where as many connections stand as may, or as many numbers were given as the range has
+-- an Open is refused where as many connections stand as may, or the last number of the range was given
 abbrev pub LimitsAreReached : Type 0
-LimitsAreReached = (range : NumberRange) (past : List BookEvent) (event : BookEvent) (count given : ℕ)
-    → reply_after range past event ≡ Limit count given → (count ≡ MAX_CONNECTIONS) ⊎ (given ≡ range.last - range.after)
+LimitsAreReached = (range : NumberRange) (past : List BookEvent) (event : BookEvent) (count given : ℕ) → range.after ≤ range.last
+    → reply_after range past event ≡ Limit count given → (count ≡ MAX_CONNECTIONS) ⊎ (given ≡ range.last)
 
 -- a number that was given and does not stand any more never stands again: so each that an Expire gave up
 pub record GoneNumbersStayAway : Type 0 where

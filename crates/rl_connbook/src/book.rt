@@ -5,7 +5,7 @@ ghost use Rattle.std.specs.Map.{keys_of, lookup};
 ghost use Rattle.std.specs.BTreeMap.{is_at, insert_entry};
 ghost use Rattle.std.specs.Ordering.{nat_cmp};
 ghost use Rattle.rl_types.specs.declared.book.BookEvent.{BookEvent};
-ghost use Rattle.rl_connbook.specs.Book.{told, book_after, given, is_full, is_over, is_spare};
+ghost use Rattle.rl_connbook.specs.Book.{told, book_after, is_full, is_over, is_spare};
 ghost use Rattle.rl_connbook.specs.Steps.{after, without_all};
 ghost use Rattle.rl_connbook.specs.Due.{is_over_at, due_numbers, without_deadlines};
 
@@ -29,8 +29,8 @@ use std::marker::Model;
 /// history.
 ///
 /// - `Open` gives the next number, from `after + 1`, with generation 1 and a key; or `Limit` exactly where
-///   [`MAX_CONNECTIONS`] stand or no number of the range is left. `Limit` says how many stand, and how many
-///   numbers this book gave: with `last - after` of them none is left, whatever number the range begins at.
+///   [`MAX_CONNECTIONS`] stand or no number of the range is left. `Limit` says how many stand, and the last
+///   number given, or `after` where none was: at `last` none is left.
 /// - `Resume` brings a live or lost connection back under the next generation; or `KeyUnknown` exactly where no
 ///   such connection has that key, or its generation is `MAX_RESUMED_GENERATION`.
 /// - `Begin`, `End`, `Lost` and `Close` are `NoRecord` exactly where no connection with that number stands, and
@@ -136,13 +136,6 @@ impl ConnBook {
         self.records.len() >= MAX_CONNECTIONS || self.last_given >= self.range.last
     }
 
-    // How many numbers were given.
-    fn given(&self) -> u32
-        ensures { result ≡ given self.now }
-    {
-        self.last_given.saturating_sub(self.range.after)
-    }
-
     // The key, its copy and the deadline are made before the record. Where the memory for the record ends, the
     // deadline is cancelled, which takes none.
     fn open(&mut self, alloc: Global, word: u64) -> Result<BookReply, NoMemory>
@@ -153,7 +146,7 @@ impl ConnBook {
         if self.is_full() {
             return Ok(BookReply::Limit {
                 count: self.records.len(),
-                given: self.given(),
+                given: self.last_given,
             });
         }
         let conn = self.last_given + 1;

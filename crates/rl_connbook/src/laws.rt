@@ -20,8 +20,8 @@ pub fn numbers_are_given_once()
     ensures { NumbersAreGivenOnce }
 {}
 
-/// `Limit` comes only where [`MAX_CONNECTIONS`](rl_numbers::limits::MAX_CONNECTIONS) stand, or where the book gave
-/// as many numbers as its range has. It says so.
+/// `Limit` comes only where [`MAX_CONNECTIONS`](rl_numbers::limits::MAX_CONNECTIONS) stand, or where the last
+/// number of the range was given. It says so.
 #[tactic(auto, using(crate::proofs::BookLaws::limits_are_reached))]
 pub fn limits_are_reached()
     ensures { LimitsAreReached }
