@@ -195,11 +195,11 @@ pub stays : {A E : Type 0} (result : Result A E) (old new : ChannelState)
     → OnErr result ((past : List ChannelEvent) → StandsFor old past → StandsFor new past)
 stays (Ok a) old new keeps same clocked made = tt
 stays (Err e) old new keeps same clocked made = λ past stands. at_site old new past made (
-  record {
-    keeps = keeps (parts_of old.setup.site past) stands.keeps;
-    members = same ∙ stands.members;
-    clock = clocked ∙ stands.clock;
-  })
+    record {
+      keeps = keeps (parts_of old.setup.site past) stands.keeps;
+      members = same ∙ stands.members;
+      clock = clocked ∙ stands.clock;
+    })
 
 pub stays_if : {A E : Type 0} (result : Result A E) (old new : ChannelState)
     → OnErr result ((parts : Parts) → Keeps old.log parts → Keeps new.log parts) → new.members ≡ old.members → OnErr result (new.clock ≡ old.clock) → new.setup ≡ old.setup
@@ -215,7 +215,7 @@ pub refused : {E : Type 0} (result : Result Verdict E) (old new : ChannelState) 
     → OnOk result ((parts : Parts) → Keeps old.log parts → Keeps new.log (settled_parts conn serial (Done (Refused code)) parts))
     → new.members ≡ old.members → OnOk result (new.clock ≡ max now old.clock) → new.setup ≡ old.setup
     → IfOk result (λ answer. (past : List ChannelEvent) → StandsFor old past → settled_at old.setup.site past conn serial body ≡ None
-        → IsDecided old new past (record { conn = conn; serial = serial; body = body; now = now }) answer)
+    → IsDecided old new past (record { conn = conn; serial = serial; body = body; now = now }) answer)
 refused (Err e) old new conn serial code body made now stamp place is after answered keeps same clocked made_with = tt
 refused (Ok answer) old new conn serial code body made now stamp place is after answered keeps same clocked made_with = λ past stands passes.
     subst (λ (v : Verdict). IsDecided old new past (record { conn = conn; serial = serial; body = body; now = now }) v) (sym answered)

@@ -19,9 +19,7 @@ use crate::filling::{copied_id, filled, given_id};
 use crate::judging::judged_early;
 use crate::objects::states_after;
 use rl_chanlog::ChanLog;
-use rl_ids::{
-    ConnNo, Epoch, List, MemberKey, Moment, NoMemory, ObjectId, Place, SiteCode, Text,
-};
+use rl_ids::{ConnNo, Epoch, List, MemberKey, Moment, NoMemory, ObjectId, Place, SiteCode, Text};
 use rl_members::Members;
 use rl_numbers::limits::{MAX_MESSAGE_SIZE, MAX_PLACE};
 use rl_types::{Body, Entry, Given, ObjectState, Outcome, PresenceItem, ReadReply, Verdict};

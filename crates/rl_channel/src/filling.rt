@@ -7,9 +7,7 @@ ghost use Rattle.rl_model.specs.Texts.{made_id};
 ghost use Rattle.rl_model.specs.Ids.{given_id, filled, filled_id, filled_items, filled_ops, filled_presence, with_serial};
 ghost use Rattle.rl_types.specs.Weight.{body_weight};
 
-use rl_ids::{
-    ConnNo, Copied, List, Moment, NoMemory, OpSerial, Place, SiteCode, Text, write_conn,
-};
+use rl_ids::{ConnNo, Copied, List, Moment, NoMemory, OpSerial, Place, SiteCode, Text, write_conn};
 use rl_numbers::limits::MAX_MESSAGE_SIZE;
 use rl_types::{Body, Item, ObjectOp, PresenceItem};
 use std::alloc::Global;

@@ -21,6 +21,12 @@ pub const MAX_COUNTER_SUM: i128 = 1_267_650_600_228_229_401_496_703_205_376;
 /// The greatest index that an operation's serial spells by four digits.
 pub const MAX_OPERATION_INDEX: u16 = 9_999;
 
+/// The longest code of a site.
+pub const MAX_SITE_CODE: usize = 16;
+
+/// The longest hash in an object's id.
+pub const MAX_OBJECT_HASH: usize = 64;
+
 // FRAMES
 
 /// The longest frame that is read.

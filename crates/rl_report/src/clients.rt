@@ -96,11 +96,7 @@ fn push_members(out: &mut Blob, view: &ChannelView) -> Result<(), NoMemory>
 }
 
 // The lines of all objects.
-fn push_object_lines(
-    out: &mut Blob,
-    epoch: Epoch,
-    objects: &[ObjectState],
-) -> Result<(), NoMemory>
+fn push_object_lines(out: &mut Blob, epoch: Epoch, objects: &[ObjectState]) -> Result<(), NoMemory>
     ensures { OnOk result (out.new ≡ out.old ++ flat_map object_lines objects.now) }
 {
     push_all(out, epoch, objects)

@@ -1,4 +1,4 @@
-use rl_ids::{Copied, List, MapValue, NoMemory, ObjectId, OpSerial, SiteCode, Text};
+use rl_ids::{Copied, List, MapValue, NoMemory, ObjectId, OpSerial, Same, SiteCode, Text};
 use std::alloc::Global;
 
 /// What is done to an object (RTO). The root is there from the start.
@@ -133,5 +133,31 @@ impl Copied for ObjectState {
             created: self.created,
             body: self.body.copy(alloc)?,
         })
+    }
+}
+
+impl Same for MapCell {
+    fn same(&self, other: &MapCell) -> bool {
+        self.serial.same(&other.serial) && self.value.same(&other.value)
+    }
+}
+
+impl Same for ObjectBody {
+    fn same(&self, other: &ObjectBody) -> bool {
+        match (self, other) {
+            (ObjectBody::Counter(a), ObjectBody::Counter(b)) => a.same(b),
+            (ObjectBody::Map(a), ObjectBody::Map(b)) => a.same(b),
+            _ => false,
+        }
+    }
+}
+
+impl Same for ObjectState {
+    fn same(&self, other: &ObjectState) -> bool {
+        self.id.same(&other.id)
+            && self.sites.same(&other.sites)
+            && self.tombstone.same(&other.tombstone)
+            && self.created.same(&other.created)
+            && self.body.same(&other.body)
     }
 }

@@ -92,8 +92,12 @@ impl Weighed for ObjectOp {
             Op::MapRemove { id, key } => ITEM_WEIGHT
                 .saturating_add(object_id_len(id))
                 .saturating_add(key.len() as u64),
-            Op::CounterCreate { id, .. } => (ITEM_WEIGHT + VALUE_WEIGHT).saturating_add(object_id_len(id)),
-            Op::CounterInc { id, .. } => (ITEM_WEIGHT + VALUE_WEIGHT).saturating_add(object_id_len(id)),
+            Op::CounterCreate { id, .. } => (ITEM_WEIGHT + VALUE_WEIGHT).saturating_add(
+                object_id_len(id),
+            ),
+            Op::CounterInc { id, .. } => (ITEM_WEIGHT + VALUE_WEIGHT).saturating_add(object_id_len(
+                id,
+            )),
             Op::Delete { id } => ITEM_WEIGHT.saturating_add(object_id_len(id)),
         }
     }

@@ -18,7 +18,7 @@ loop-op-preserved c =
     let one : length c.loop-op.op-iterator.rest.items ≡ suc (length c.next.new.self.rest.items) = ap (λ (ops : List ObjectOp). length ops) c.in-Some.ensures.steps.0 in
     let longer : length c.push.new.self ≡ suc (length c.loop-op.made) = ap (λ (ops : List ObjectOp). length ops) c.in_ok-push.ensures.ok ∙ length_push c.loop-op.made _ in (
       c.in_ok-push.ensures.ok
-      ∙ ap (λ x. c.loop-op.made ++ x ∷ []) c.with_serial.ensures
-      ∙ sym (ops_at_push c.args.site c.args.place c.loop-op.yielded c.in-Some.op c.len-index.result c.loop-op.made c.loop-op.invariant.0 c.len-index.ensures),
+          ∙ ap (λ x. c.loop-op.made ++ x ∷ []) c.with_serial.ensures
+          ∙ sym (ops_at_push c.args.site c.args.place c.loop-op.yielded c.in-Some.op c.len-index.result c.loop-op.made c.loop-op.invariant.0 c.len-index.ensures),
       omega (arith, one, longer, c.loop-op.invariant.1),
     )
