@@ -6,11 +6,15 @@
 #[cfg(test)]
 mod base;
 #[cfg(test)]
+mod commands;
+#[cfg(test)]
 mod data;
 #[cfg(test)]
 mod frames;
 #[cfg(test)]
 mod ids;
+#[cfg(test)]
+mod objects;
 #[cfg(test)]
 mod presence;
 #[cfg(test)]

@@ -56,6 +56,7 @@ fn view(alloc: Global) -> Result<ChannelView, NoMemory> {
         members_whole: true,
         members: list(alloc, item(alloc, PresenceAction::Present, "a")?)?,
         objects_whole: true,
+        objects: List::new(alloc),
     })
 }
 
@@ -87,7 +88,6 @@ record room attached -
 members room yes
 member c00000001 \"a\" \"x\"
 objects room yes
-map root 0
 end
 ";
     assert!(rt; text.as_slice() == wanted.as_bytes());
