@@ -1,9 +1,15 @@
 -- Digits spell the number that they were written for.
 use Rattle.std.proofs.Common.{◌≡◌, ℕ, zero, suc, add-zero, add-suc, nat_lt, if◌then◌else◌, ◌+◌, ◌-◌, ◌*◌, ◌/◌, ◌%◌, ◌^◌, ◌<◌, List, [], ◌∷◌, ◌++◌, length, arith, refl, sym, ◌∙◌, ap}
+use Rattle.std.proofs.Common.{append-nil, append_assoc, Bool, false}
+use Rattle.std.proofs.lemmas.List.Folds.{list_all-append}
 use Rattle.std.proofs.lemmas.Bool.Decides.{nat_tests}
 use Rattle.std.proofs.Math.Nat.{mod-lt, mod-eq_of_lt, suc-add, zero-add, pow-zero, pow-suc, pow-succ'}
 use Rattle.std.proofs.lemmas.Nat.{div-add-mod', mul-add-lt, row_below_turned}
-use Rattle.rl_base.specs.Digits.{fixed_text, digit_glyph, digit_value, spelled, spelled_behind}
+use Rattle.std.specs.Prelude.{true, ◌&&◌, ◌≤◌, Option, Some, None, IfSome, IsSome, is_some}
+use Rattle.std.proofs.Common.{true≢false}
+use Rattle.std.specs.List.{list_all}
+use Rattle.rl_base.specs.Digits.{fixed_text, digit_glyph, digit_value, is_digit, spelled, spelled_behind, IsPaddedDecimal}
+use Rattle.rl_base.proofs.Digits.{fixed_push}
 
 spelled_push : (base high : ℕ) (xs : List ℕ) (g : ℕ) → spelled_behind base high (xs ++ g ∷ []) ≡ spelled_behind base high xs * base + digit_value base g
 spelled_push base high [] g = refl
@@ -33,3 +39,58 @@ spelled_below base high k (x ∷ xs) big small =
 -- digits spell a number that has no more digits
 pub spelled_small : (base : ℕ) (xs : List ℕ) → 0 < base → spelled base xs < base ^ length xs
 spelled_small base xs big = rw (← zero-add (length xs)) (spelled_below base 0 0 xs big (omega (arith, pow-zero base)))
+
+-- DECIMAL DIGITS
+
+-- a decimal digit is the character of what it is worth
+glyph_of_value : (g : ℕ) → is_digit g ≡ true → digit_glyph (digit_value 10 g) ≡ g
+glyph_of_value g is = grind (arith, nat_tests, is)
+
+and_left : (a b : Bool) → (a && b) ≡ true → a ≡ true
+and_left true b is = refl
+and_left false b is = absurd (cc)
+
+and_right : (a b : Bool) → (a && b) ≡ true → b ≡ true
+and_right true b is = is
+and_right false b is = absurd (cc)
+
+fixed_behind : (high k : ℕ) (xs : List ℕ) → list_all is_digit xs ≡ true → fixed_text 10 (k + length xs) (spelled_behind 10 high xs) ≡ fixed_text 10 k high ++ xs
+fixed_behind high k [] digits = ap (λ n. fixed_text 10 n high) (add-zero k) ∙ sym (append-nil (fixed_text 10 k high))
+fixed_behind high k (x ∷ xs) digits =
+    let own = and_left (is_digit x) (list_all is_digit xs) digits in
+    let v = digit_value 10 x in
+    ap (λ n. fixed_text 10 n (spelled_behind 10 (high * 10 + v) xs)) (add-suc k (length xs) ∙ sym (suc-add k (length xs)))
+    ∙ fixed_behind (high * 10 + v) (suc k) xs (and_right (is_digit x) (list_all is_digit xs) digits)
+    ∙ ap (λ t. t ++ xs) (fixed_push 10 k high v (mod-lt _ (omega arith)) ∙ ap (λ g. fixed_text 10 k high ++ g ∷ []) (glyph_of_value x own))
+    ∙ append_assoc (fixed_text 10 k high) (x ∷ []) xs
+
+-- decimal digits are those of the number that they spell
+pub fixed_spelled : (xs : List ℕ) → list_all is_digit xs ≡ true → xs ≡ fixed_text 10 (length xs) (spelled 10 xs)
+fixed_spelled xs digits = sym (ap (λ n. fixed_text 10 n (spelled 10 xs)) (sym (zero-add (length xs))) ∙ fixed_behind 0 0 xs digits)
+
+digit_glyphs : (d : ℕ) → d < 10 → is_digit (digit_glyph d) ≡ true
+digit_glyphs d small = grind (arith, nat_tests, small)
+
+pub fixed_digits : (k n : ℕ) → list_all is_digit (fixed_text 10 k n) ≡ true
+fixed_digits zero n = refl
+fixed_digits (suc k) n =
+    list_all-append is_digit (fixed_text 10 k (n / 10)) (digit_glyph (n % 10) ∷ [])
+    ∙ ap (λ b. b && (is_digit (digit_glyph (n % 10)) && true)) (fixed_digits k (n / 10))
+    ∙ ap (λ b. b && true) (digit_glyphs (n % 10) (mod-lt n (omega arith)))
+
+-- what reading 1 to 38 digits answers
+pub padded_exactly : (bytes : List ℕ) (r : Option ℕ) → 0 < length bytes → length bytes ≤ 38
+    → IfSome r (λ n. (n < 10 ^ length bytes) × (bytes ≡ fixed_text 10 (length bytes) n)) → ((n : ℕ) → n < 10 ^ length bytes → bytes ≡ fixed_text 10 (length bytes) n → r ≡ Some n)
+    → (IsSome r → IsPaddedDecimal bytes) × (IsPaddedDecimal bytes → IsSome r)
+padded_exactly bytes r some fits found every = (there r found, back)
+  where
+    there : (r : Option ℕ) → IfSome r (λ n. (n < 10 ^ length bytes) × (bytes ≡ fixed_text 10 (length bytes) n)) → IsSome r → IsPaddedDecimal bytes
+    there (Some n) found is = record { some = some; fits = fits; digits = ap (list_all is_digit) found.1 ∙ fixed_digits (length bytes) n }
+    there None found is = absurd (true≢false (sym is))
+
+    back : IsPaddedDecimal bytes → IsSome r
+    back h = ap is_some (every (spelled 10 bytes) (spelled_small 10 bytes (omega arith)) (fixed_spelled bytes h.digits))
+
+pub padded_value : (bytes : List ℕ) (r : Option ℕ) → IfSome r (λ n. (n < 10 ^ length bytes) × (bytes ≡ fixed_text 10 (length bytes) n)) → IfSome r (λ n. n ≡ spelled 10 bytes)
+padded_value bytes (Some n) found = sym (ap (spelled 10) found.1 ∙ spelled_fixed 10 (length bytes) n (omega arith) (omega arith) found.0)
+padded_value bytes None found = found

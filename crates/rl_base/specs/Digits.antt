@@ -1,5 +1,7 @@
--- Numbers written with a fixed count of digits.
-use Rattle.std.specs.Prelude.{ℕ, zero, suc, ◌+◌, ◌-◌, ◌*◌, ◌/◌, ◌%◌, List, [], ◌∷◌, ◌++◌, nat_lt, if◌then◌else◌}
+-- Numbers written in digits.
+use Rattle.std.specs.Prelude.{ℕ, Bool, zero, suc, ◌≤◌, ◌<◌, ◌+◌, ◌-◌, ◌*◌, ◌/◌, ◌%◌, ◌&&◌, List, [], ◌∷◌, ◌++◌, length, IsTrue, max, nat_le, nat_lt, if◌then◌else◌}
+use Rattle.std.specs.List.{list_all}
+use Rattle.std.specs.Int.Digits.{digits_of}
 
 -- the character of a digit below 36: `0` to `9`, then `a` to `z`
 abbrev pub digit_glyph : ℕ → ℕ
@@ -9,6 +11,10 @@ digit_glyph d = if nat_lt d 10 then 48 + d else 87 + d
 abbrev pub fixed_text : ℕ → ℕ → ℕ → List ℕ
 fixed_text base zero n = []
 fixed_text base (suc k) n = fixed_text base k (n / base) ++ digit_glyph (n % base) ∷ []
+
+-- all digits of n in a base, but at least width of them, with leading zeros where it has fewer
+abbrev pub at_least_text : ℕ → ℕ → ℕ → List ℕ
+at_least_text base width n = fixed_text base (max width (length (digits_of base n))) n
 
 -- what a character is worth as a digit in a base, whatever it is
 abbrev pub digit_value : ℕ → ℕ → ℕ
@@ -22,3 +28,13 @@ spelled_behind base high (glyph ∷ rest) = spelled_behind base (high * base + d
 -- the number that digits in a base spell
 abbrev pub spelled : ℕ → List ℕ → ℕ
 spelled base digits = spelled_behind base 0 digits
+
+-- a character of `0-9`
+abbrev pub is_digit : ℕ → Bool
+is_digit byte = nat_le 48 byte && nat_le byte 57
+
+-- 1 to 38 decimal digits, with leading zeros where there are any
+pub record IsPaddedDecimal (text : List ℕ) : Type 0 where
+  pub some : 0 < length text
+  pub fits : length text ≤ 38
+  pub digits : IsTrue (list_all is_digit text)

@@ -1,8 +1,11 @@
-ghost use Rattle.std.specs.Prelude.{◌≡◌, ◌++◌, [], ◌∷◌, ◌↔◌, length, IfOk, IsTrue, OnOk, OnErr, nat_eq};
+ghost use Rattle.std.specs.Prelude.{◌≡◌, ◌≤◌, ◌<◌, ◌++◌, [], ◌∷◌, ◌↔◌, length, IfOk, IsTrue, OnOk, OnErr, nat_eq};
+ghost use Rattle.std.specs.Fmt.{decimal};
+ghost use Rattle.rl_base.specs.Digits.{fixed_text};
 ghost use Rattle.std.specs.Cmp.{partial_equiv_from_equiv};
 ghost use Rattle.std.specs.Cmp.Lexicographic.{pointwise, nat_list_eq_equiv};
 
-use crate::{Copied, NoMemory, Same, Text};
+use crate::{Code64, Copied, NoMemory, Same, Text};
+use itoa::Buffer;
 use std::alloc::Global;
 use std::marker::Model;
 
@@ -92,6 +95,28 @@ impl Blob {
     {
         self.inner.extend_from_slice(more)?;
         Ok(())
+    }
+
+    /// Appends a number in decimal, without leading zeros.
+    pub fn push_decimal(&mut self, number: u64) -> Result<(), NoMemory>
+        ensures ok { OnOk result (self.new ≡ self.old ++ decimal number) }
+        ensures err { OnErr result (self.new ≡ self.old) }
+    {
+        let mut buffer = Buffer::new();
+        self.extend_from_slice(buffer.format(number).as_bytes())
+    }
+
+    /// Appends the last `width` digits, at most 64, of a number in a base from 2 to 16, in lower case.
+    pub fn push_digits(&mut self, base: u8, width: u8, number: u64) -> Result<(), NoMemory>
+        requires low { 1 < base }
+        requires high { base < 17 }
+        requires fits { width ≤ 64 }
+        ensures ok { OnOk result (self.new ≡ self.old ++ fixed_text base width number) }
+        ensures err { OnErr result (self.new ≡ self.old) }
+    {
+        let mut digits = Code64::new();
+        digits.push_digits(base, width, number);
+        self.extend_from_slice(digits.as_str().as_bytes())
     }
 
     pub fn clear(&mut self)

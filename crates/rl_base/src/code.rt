@@ -1,9 +1,13 @@
-ghost use Rattle.std.specs.Prelude.{◌≡◌, ◌≤◌, ◌↔◌, [], length, IfSome, IsSome, IsTrue, nat_eq, refl, Some};
+ghost use Rattle.std.specs.Prelude.{◌≡◌, ◌≤◌, ◌<◌, ◌+◌, ◌++◌, ◌∷◌, ◌↔◌, [], length, IfSome, IsSome, IsTrue, nat_eq, refl, Some};
 ghost use Rattle.std.specs.Ordering.{nat_cmp};
+ghost use Rattle.std.specs.Fmt.{decimal};
+ghost use Rattle.rl_base.specs.Digits.{at_least_text, fixed_text};
 ghost use Rattle.std.specs.Cmp.{partial_equiv_from_equiv};
 ghost use Rattle.std.specs.Cmp.Lexicographic.{pointwise, slice_cmp, nat_list_eq_equiv, nat_list_cmp_total, texts_po, texts_ties};
 
+use crate::numerals::{digit_count, digit_glyph};
 use crate::{Copied, NoMemory, Same};
+use itoa::Buffer;
 use std::alloc::Global;
 use std::cmp::Ordering;
 use std::marker::Model;
@@ -54,6 +58,74 @@ impl<const CAP: usize> Code<CAP> {
         let mut bytes = [0; CAP];
         bytes[..len].copy_from_slice(text.as_bytes());
         Some(Code { bytes, len })
+    }
+
+    /// The empty text.
+    pub fn new() -> Code<CAP>
+        ensures { result ≡ [] }
+    {
+        Code {
+            bytes: [0; CAP],
+            len: 0,
+        }
+    }
+
+    /// Appends a text for which there is room.
+    pub fn push_str(&mut self, more: &str)
+        requires fits { length self.old + length more.now ≤ CAP }
+        ensures { self.new ≡ self.old ++ more.now }
+    {
+        let len = self.len + more.len();
+        let mut bytes = self.bytes;
+        let cells = &mut bytes[..];
+        cells[self.len..len].copy_from_slice(more.as_bytes());
+        *self = Code { bytes, len };
+    }
+
+    /// Appends an ASCII character for which there is room.
+    pub fn push_ascii(&mut self, byte: u8)
+        requires ascii { byte < 128 }
+        requires fits { length self.old < CAP }
+        ensures { self.new ≡ self.old ++ byte ∷ [] }
+    {
+        let mut buffer = [0; 4];
+        self.push_str((byte as char).encode_utf8(&mut buffer));
+    }
+
+    /// Appends a number in decimal, without leading zeros, where there is room for 20 digits.
+    pub fn push_decimal(&mut self, number: u64)
+        requires fits { length self.old + 20 ≤ CAP }
+        ensures { self.new ≡ self.old ++ decimal number }
+    {
+        let mut buffer = Buffer::new();
+        self.push_str(buffer.format(number));
+    }
+
+    /// Appends the last `width` digits of a number in a base from 2 to 16, in lower case, where there is
+    /// room for them.
+    pub fn push_digits(&mut self, base: u8, width: u8, number: u64)
+        requires low { 1 < base }
+        requires high { base < 17 }
+        requires fits { length self.old + width ≤ CAP }
+        ensures { self.new ≡ self.old ++ fixed_text base width number }
+    {
+        if width == 0 {
+            return;
+        }
+        let whole = u64::from(base);
+        self.push_digits(base, width - 1, number / whole);
+        self.push_ascii(digit_glyph((number % whole) as u8));
+    }
+
+    /// Appends all digits of a number in a base from 2 to 16, in lower case, with leading zeros up to
+    /// `width` digits where it has fewer, where there is room for them.
+    pub fn push_at_least(&mut self, base: u8, width: u8, number: u64)
+        requires low { 1 < base }
+        requires high { base < 17 }
+        requires fits { length self.old + length (at_least_text base width number) ≤ CAP }
+        ensures { self.new ≡ self.old ++ at_least_text base width number }
+    {
+        self.push_digits(base, width.max(digit_count(number, base)), number);
     }
 
     pub fn as_str(&self) -> &str

@@ -19,6 +19,6 @@ pub use code::{Code, Code16, Code64};
 pub use copied::Copied;
 pub use list::List;
 pub use memory::NoMemory;
-pub use numerals::{read_digits, read_fixed};
+pub use numerals::{read_decimal, read_digits, read_fixed, read_padded_decimal};
 pub use same::Same;
 pub use text::Text;

@@ -1,5 +1,35 @@
-ghost use Rattle.std.specs.Prelude.{◌≡◌, ◌<◌, ◌≤◌, ◌^◌, ℕ, length, IfSome, Some};
-ghost use Rattle.rl_base.specs.Digits.{digit_glyph, fixed_text};
+ghost use Rattle.std.specs.Prelude.{◌≡◌, ◌<◌, ◌≤◌, ◌^◌, ◌↔◌, ℕ, length, IfSome, IsSome, Some};
+ghost use Rattle.std.specs.Fmt.{decimal};
+ghost use Rattle.std.specs.Int.Digits.{digits_of};
+ghost use Rattle.rl_base.specs.Digits.{digit_glyph, fixed_text, spelled, IsPaddedDecimal};
+
+use itoa::Buffer;
+
+// The digit's character.
+pub(crate) fn digit_glyph(digit: u8) -> u8
+    requires { digit < 16 }
+    ensures value { result ≡ digit_glyph digit }
+    ensures ascii { result < 128 }
+{
+    if digit < 10 {
+        b'0' + digit
+    } else {
+        b'a' + (digit - 10)
+    }
+}
+
+// How many digits a number has in a base: none for 0.
+pub(crate) fn digit_count(number: u64, base: u8) -> u8
+    requires low { 1 < base }
+    ensures value { result ≡ length (digits_of base number) }
+    ensures most { result ≤ 64 }
+{
+    if number == 0 {
+        0
+    } else {
+        digit_count(number / u64::from(base), base) + 1
+    }
+}
 
 // What a character is worth as a digit in a base.
 fn glyph_value(glyph: u8, base: u8) -> Option<u8>
@@ -18,10 +48,10 @@ fn glyph_value(glyph: u8, base: u8) -> Option<u8>
 /// The number that digits in a base from 2 to 16 spell, in lower case, the highest first, with leading
 /// zeros where there are any. It is `None` exactly where a character is no digit of the base. It takes no
 /// memory. No digits spell 0.
-pub fn read_digits(bytes: &[u8], base: u8) -> Option<u64>
+pub fn read_digits(bytes: &[u8], base: u8) -> Option<u128>
     requires low { 1 < base }
     requires high { base < 17 }
-    requires room { base ^ length bytes.now ≤ 2 ^ 64 }
+    requires room { base ^ length bytes.now ≤ 2 ^ 128 }
     ensures found { IfSome result (λ n. (n < base ^ length bytes.now) × (bytes.now ≡ fixed_text base (length bytes.now) n)) }
     ensures every { (n : ℕ) → n < base ^ length bytes.now → bytes.now ≡ fixed_text base (length bytes.now) n → result ≡ Some n }
 {
@@ -30,21 +60,55 @@ pub fn read_digits(bytes: &[u8], base: u8) -> Option<u64>
     };
     let high = read_digits(front, base)?;
     let digit = glyph_value(*last, base)?;
-    Some(high * u64::from(base) + u64::from(digit))
+    Some(high * u128::from(base) + u128::from(digit))
 }
 
 /// The number that exactly `width` digits in a base from 2 to 16 spell, as [`read_digits`]. It is `None`
-/// exactly where there is another count of characters, or one is no digit of the base.
+/// exactly where there is another count of characters, one is no digit of the base, or the number is more
+/// than 64 bits hold.
 #[tactic(auto, using(crate::proofs::Digits::fixed_lengths))]
 pub fn read_fixed(bytes: &[u8], base: u8, width: usize) -> Option<u64>
     requires low { 1 < base }
     requires high { base < 17 }
-    requires room { base ^ width ≤ 2 ^ 64 }
+    requires room { base ^ width ≤ 2 ^ 128 }
     ensures found { IfSome result (λ n. (n < base ^ width) × (bytes.now ≡ fixed_text base width n)) }
-    ensures every { (n : ℕ) → n < base ^ width → bytes.now ≡ fixed_text base width n → result ≡ Some n }
+    ensures every { (n : ℕ) → n < 2 ^ 64 → n < base ^ width → bytes.now ≡ fixed_text base width n → result ≡ Some n }
 {
     if bytes.len() != width {
         return None;
     }
-    read_digits(bytes, base)
+    let number = read_digits(bytes, base)?;
+    u64::try_from(number).ok()
+}
+
+/// The number that a text is in decimal: digits alone, with no sign and no leading zero but in `0` itself.
+/// It is `None` exactly where the text is not so, or the number is more than 64 bits hold. It takes no
+/// memory.
+pub fn read_decimal(bytes: &[u8]) -> Option<u64>
+    ensures found { IfSome result (λ n. bytes.now ≡ decimal n) }
+    ensures every { (n : ℕ) → n < 2 ^ 64 → bytes.now ≡ decimal n → result ≡ Some n }
+{
+    if bytes.len() > 20 {
+        return None;
+    }
+    let number = u64::try_from(read_digits(bytes, 10)?).ok()?;
+    // What was read is written again, since digits with leading zeros were read too.
+    let mut buffer = Buffer::new();
+    if buffer.format(number).as_bytes() == bytes {
+        Some(number)
+    } else {
+        None
+    }
+}
+
+/// The number that 1 to 38 decimal digits spell, with leading zeros where there are any. It is `None`
+/// exactly where the text is not so. It takes no memory.
+pub fn read_padded_decimal(bytes: &[u8]) -> Option<u128>
+    ensures exactly { IsSome result ↔ IsPaddedDecimal bytes.now }
+    ensures value { IfSome result (λ n. n ≡ spelled 10 bytes.now) }
+{
+    if bytes.is_empty() || bytes.len() > 38 {
+        return None;
+    }
+    read_digits(bytes, 10)
 }

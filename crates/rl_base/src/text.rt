@@ -1,10 +1,11 @@
 ghost use Rattle.std.specs.Prelude.{◌≡◌, ◌++◌, [], ◌∷◌, ◌<◌, ◌↔◌, length, IfOk, IsTrue, OnOk, OnErr, string_bytes, encode_utf8, nat_eq, refl, Some};
 ghost use Rattle.std.specs.Ordering.{nat_cmp};
 ghost use Rattle.std.specs.Fmt.{decimal};
-ghost use Rattle.rl_base.specs.Digits.{digit_glyph, fixed_text};
+ghost use Rattle.rl_base.specs.Digits.{at_least_text, fixed_text};
 ghost use Rattle.std.specs.Cmp.{partial_equiv_from_equiv};
 ghost use Rattle.std.specs.Cmp.Lexicographic.{pointwise, slice_cmp, nat_list_eq_equiv, nat_list_cmp_total, texts_po, texts_ties};
 
+use crate::numerals::{digit_count, digit_glyph};
 use crate::{Copied, NoMemory, Same};
 use itoa::Buffer;
 use std::alloc::Global;
@@ -135,23 +136,27 @@ impl Text {
         self.push_str(digits.as_str())
     }
 
+    /// Appends all digits of a number in a base from 2 to 16, in lower case, with leading zeros up to
+    /// `width` digits where it has fewer.
+    pub fn push_at_least(
+        &mut self,
+        alloc: Global,
+        base: u8,
+        width: u8,
+        number: u64,
+    ) -> Result<(), NoMemory>
+        requires low { 1 < base }
+        requires high { base < 17 }
+        ensures ok { OnOk result (self.new ≡ self.old ++ at_least_text base width number) }
+        ensures err { OnErr result (self.new ≡ self.old) }
+    {
+        self.push_digits(alloc, base, width.max(digit_count(number, base)), number)
+    }
+
     pub fn clear(&mut self)
         ensures { self.new ≡ [] }
     {
         self.inner.clear();
-    }
-}
-
-// The digit's character.
-fn digit_glyph(digit: u8) -> u8
-    requires { digit < 16 }
-    ensures value { result ≡ digit_glyph digit }
-    ensures ascii { result < 128 }
-{
-    if digit < 10 {
-        b'0' + digit
-    } else {
-        b'a' + (digit - 10)
     }
 }
 
