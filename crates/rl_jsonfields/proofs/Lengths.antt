@@ -1,6 +1,7 @@
 -- How long the compact text of a value can be: JSON writes each byte of a text with at most six.
-use Rattle.std.proofs.Common.{◌≤◌, ◌+◌, ◌*◌, ℕ, Bool, true, false, cond, bytes_eq, List, [], ◌∷◌, ◌++◌, length, Option, Some, None, Ordering, Less, Equal, Greater, arith, length-append}
-use Rattle.std.specs.Prelude.{nat_lt}
+use Rattle.std.proofs.Common.{◌≤◌, ◌+◌, ◌*◌, ℕ, suc, pos, negsuc, ℤ, Bool, true, false, cond, bytes_eq, List, [], ◌∷◌, ◌++◌, length, Option, Some, None, Ordering, Less, Equal, Greater, arith, length-append}
+use Rattle.std.specs.Prelude.{nat_lt, sum_by}
+use Rattle.std.proofs.lemmas.List.Sums.{sum_by-cons}
 use Rattle.std.proofs.lemmas.Fmt.{length-decimal-le}
 use Rattle.std.specs.Cmp.Lexicographic.{slice_cmp}
 use Rattle.std.specs.Ordering.{nat_cmp, match_ordering}
@@ -11,7 +12,7 @@ use Rattle.rl_types.specs.Weight.{option_len}
 use Rattle.rl_jsonfields.specs.declared.names.Field.{Field}
 use Rattle.rl_jsonfields.specs.declared.names.Field.TheVariants as fields
 use Rattle.rl_jsonfields.specs.Names.{spelled}
-use Rattle.rl_jsonfields.specs.Texts.{num, with_text, with_number, text_unless}
+use Rattle.rl_jsonfields.specs.Texts.{num, integer, with_text, with_number, text_unless, member_of_each}
 use Rattle.rl_jsonfields.proofs.Compact.{IsWhole, Plain, PlainItems, PlainMembers}
 
 -- ---- bounds
@@ -54,7 +55,8 @@ quoted_length s = omega (arith, escaped s, length-append (escape s) (34 ∷ []))
 
 number_length : (n : Num) → IsWhole n → length (number_text n) ≤ 20
 number_length (unsigned n) h = length-decimal-le 20 n (omega arith) (omega (arith, h)) h
-number_length (negative z) h = absurd h
+number_length (negative (pos n)) h = absurd h
+number_length (negative (negsuc n)) h = omega (arith, length-decimal-le 19 (suc n) (omega arith) (omega (arith, h)) (omega (arith, h)))
 number_length (float x) h = absurd h
 
 boolean_length : (b : Bool) → length (compact_text (boolean b)) ≤ 5
@@ -175,3 +177,16 @@ unless_length false s = omega arith
 
 pub text_unless_length : (t s : List ℕ) → option_len (text_unless t s) ≤ length s
 text_unless_length t s = unless_length (bytes_eq s t) s
+
+pub integer_field_bound : (f : Field) (z : ℤ) (ms : Members) → members_bound (put (spelled f) (integer z) ms) ≤ 140 + members_bound ms
+integer_field_bound f z ms = omega (arith, name_length f, put_bound (spelled f) (integer z) ms)
+
+pub boolean_field_bound : (f : Field) (b : Bool) (ms : Members) → members_bound (put (spelled f) (boolean b) ms) ≤ 140 + members_bound ms
+boolean_field_bound f b ms = omega (arith, name_length f, put_bound (spelled f) (boolean b) ms)
+
+-- members with free keys
+module _ {A : Type 0} (key : A → List ℕ) (value : A → Data) (share : A → ℕ) where
+  pub each_member_bound : ((x : A) → 6 * length (key x) + 4 + bound (value x) ≤ share x) → (xs : List A) → members_bound (member_of_each key value xs) ≤ sum_by share xs + 1
+  unfolding member_of_each
+  each_member_bound h [] = omega arith
+  each_member_bound h (x ∷ xs) = omega (arith, h x, each_member_bound h xs, put_bound (key x) (value x) (member_of_each key value xs), sum_by-cons share x xs)

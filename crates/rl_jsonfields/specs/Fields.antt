@@ -1,5 +1,5 @@
 -- How a field of a JSON object is read. The first fault wins.
-use Rattle.std.specs.Prelude.{◌≡◌, ℕ, ◌+◌, ◌-◌, ◌^◌, Bool, false, ◌&&◌, ℤ, pos, negsuc, int_le, List, [], ◌∷◌, length, Option, Some, None, option_and_then, unwrap_or, Result, Ok, Err, nat_le, if◌then◌else◌}
+use Rattle.std.specs.Prelude.{◌≡◌, ℕ, ◌+◌, ◌-◌, ◌^◌, ◌<◌, Bool, false, ◌&&◌, ℤ, pos, negsuc, int_le, List, [], ◌∷◌, length, Option, Some, None, option_and_then, unwrap_or, Result, Ok, Err, nat_le, if◌then◌else◌}
 use Rattle.serde_json.specs.Data.{Data, null, boolean, number, string, array, object, Items, no_items, item, Members, no_members, member}
 use Rattle.serde_json.specs.Find.{get, as_bool, as_number, as_str, as_array, as_object, as_u64, as_integer}
 use Rattle.rl_jsonfields.specs.declared.names.Field.{Field}
@@ -66,6 +66,11 @@ min_signed = negsuc (2 ^ 63 - 1)
 
 abbrev pub max_signed : ℤ
 max_signed = pos (2 ^ 63 - 1)
+
+-- it is from the least to the greatest
+abbrev pub IsSigned : ℤ → Type 0
+IsSigned (pos n) = n < 2 ^ 63
+IsSigned (negsuc n) = n < 2 ^ 63
 
 abbrev pub between : ℤ → ℤ → ℤ → Option ℤ
 between low high z = if int_le low z && int_le z high then Some z else None
