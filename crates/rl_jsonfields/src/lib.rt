@@ -15,7 +15,7 @@ pub use reading::{
     bad, check_object, check_text, find, flag, missing, optional_any_text, optional_members,
     optional_number, optional_object, optional_signed, optional_text, required_any_text,
     required_members, required_number, required_object, required_signed, required_text,
-    required_whole,
+    required_whole, signed_of,
 };
 pub use taking::{optional_items, required_items, take_text};
 pub use writing::{

@@ -42,7 +42,8 @@ fn whole_of(value: &Value) -> Option<i128>
     value.as_number().and_then(|n| n.as_i128())
 }
 
-fn signed_of(value: &Value) -> Option<i64>
+/// The whole number of 64 bits with a sign that a value is, or `None` where it is none.
+pub fn signed_of(value: &Value) -> Option<i64>
     ensures { result ≡ signed (view value.now) }
 {
     match whole_of(value) {

@@ -1,0 +1,4 @@
+pub mod Operations
+pub mod Sendable
+pub mod States
+pub mod Values
