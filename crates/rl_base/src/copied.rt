@@ -49,3 +49,21 @@ impl Copied for bool {
         Ok(*self)
     }
 }
+
+impl Copied for i64 {
+    fn copy(&self, _alloc: Global) -> Result<i64, NoMemory> {
+        Ok(*self)
+    }
+}
+
+impl Copied for i128 {
+    fn copy(&self, _alloc: Global) -> Result<i128, NoMemory> {
+        Ok(*self)
+    }
+}
+
+impl Copied for usize {
+    fn copy(&self, _alloc: Global) -> Result<usize, NoMemory> {
+        Ok(*self)
+    }
+}

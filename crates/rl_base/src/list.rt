@@ -1,4 +1,4 @@
-ghost use Rattle.std.specs.Prelude.{◌≡◌, ◌++◌, [], ◌∷◌, ◌<◌, length, take, IfOk, OnOk, OnErr, OnSome, IsTrue, ◌↔◌, MatchOption, slice_get, slice_set, remove, insert, ◌≤◌, ◌-◌, Some, IsPermutation, IsSorted, Contains, swap, reverse};
+ghost use Rattle.std.specs.Prelude.{◌≡◌, ◌++◌, [], ◌∷◌, ◌<◌, length, IfOk, OnOk, OnErr, OnSome, IsTrue, ◌↔◌, MatchOption, slice_get, slice_set, remove, insert, ◌≤◌, ◌-◌, Some, IsPermutation, IsSorted, Contains};
 ghost use Rattle.std.specs.Option.{option_copied};
 ghost use Rattle.std.specs.Borrow.{sem};
 ghost use Rattle.std.specs.Fn.{CalledAt};
@@ -129,33 +129,6 @@ impl<T: Drop> List<T> {
     {
         self.items.insert(at, item)?;
         Ok(())
-    }
-
-    /// Keeps the first `len` items.
-    pub fn truncate(&mut self, len: usize)
-        ensures { self.new ≡ take len self.old }
-    {
-        self.items.truncate(len);
-    }
-
-    pub fn reverse(&mut self)
-        ensures { self.new ≡ reverse self.old }
-    {
-        self.items.reverse();
-    }
-
-    pub fn swap(&mut self, first: usize, second: usize)
-        requires first { first < length self.old }
-        requires second { second < length self.old }
-        ensures { self.new ≡ swap self.old first second }
-    {
-        self.items.swap(first, second);
-    }
-
-    pub fn clear(&mut self)
-        ensures { self.new ≡ [] }
-    {
-        self.items.clear();
     }
 
     /// Keeps the items for which `keep` holds.

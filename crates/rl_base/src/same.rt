@@ -23,14 +23,26 @@ impl<A: Same, B: Same> Same for (A, B) {
     }
 }
 
-impl Same for u32 {
-    fn same(&self, other: &u32) -> bool {
+impl Same for u16 {
+    fn same(&self, other: &u16) -> bool {
         *self == *other
     }
 }
 
 impl Same for u64 {
     fn same(&self, other: &u64) -> bool {
+        *self == *other
+    }
+}
+
+impl Same for i64 {
+    fn same(&self, other: &i64) -> bool {
+        *self == *other
+    }
+}
+
+impl Same for i128 {
+    fn same(&self, other: &i128) -> bool {
         *self == *other
     }
 }

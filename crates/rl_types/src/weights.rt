@@ -65,7 +65,7 @@ fn value_weight(value: &MapValue) -> u64
         MapValue::Whole(_) => VALUE_WEIGHT,
         MapValue::Bool(_) => VALUE_WEIGHT,
         MapValue::Bytes(bytes) => bytes.len() as u64,
-        MapValue::Ref(id) => object_id_len(id),
+        MapValue::Ref(id) => object_id_len(id) as u64,
     }
 }
 
@@ -83,18 +83,18 @@ impl Weighed for ObjectOp {
     fn own_weight(&self) -> u64 {
         match &self.op {
             Op::MapCreate { id, entries } => ITEM_WEIGHT
-                .saturating_add(object_id_len(id))
+                .saturating_add(object_id_len(id) as u64)
                 .saturating_add(total(entries.as_slice())),
             Op::MapSet { id, key, value } => ITEM_WEIGHT
-                .saturating_add(object_id_len(id))
+                .saturating_add(object_id_len(id) as u64)
                 .saturating_add(key.len() as u64)
                 .saturating_add(value_weight(value)),
             Op::MapRemove { id, key } => ITEM_WEIGHT
-                .saturating_add(object_id_len(id))
+                .saturating_add(object_id_len(id) as u64)
                 .saturating_add(key.len() as u64),
-            Op::CounterCreate { id, .. } => (ITEM_WEIGHT + VALUE_WEIGHT).saturating_add(object_id_len(id)),
-            Op::CounterInc { id, .. } => (ITEM_WEIGHT + VALUE_WEIGHT).saturating_add(object_id_len(id)),
-            Op::Delete { id } => ITEM_WEIGHT.saturating_add(object_id_len(id)),
+            Op::CounterCreate { id, .. } => (ITEM_WEIGHT + VALUE_WEIGHT).saturating_add(object_id_len(id) as u64),
+            Op::CounterInc { id, .. } => (ITEM_WEIGHT + VALUE_WEIGHT).saturating_add(object_id_len(id) as u64),
+            Op::Delete { id } => ITEM_WEIGHT.saturating_add(object_id_len(id) as u64),
         }
     }
 }
