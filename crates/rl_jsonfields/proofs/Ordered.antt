@@ -1,6 +1,6 @@
 -- The members of each object that was read come in the order of their keys, each once.
-use Rattle.std.proofs.Common.{◌≡◌, ℕ, List, [], ◌∷◌, Option, Some, None, option_map, Ordering, Less, Equal, Greater, refl, subst}
-use Rattle.std.specs.Prelude.{option_and_then, ⊤}
+use Rattle.std.proofs.Common.{◌≡◌, ℕ, Ok, List, [], ◌∷◌, Option, Some, None, option_map, Ordering, Less, Equal, Greater, refl, subst}
+use Rattle.std.specs.Prelude.{option_and_then, unwrap_or, IfSome, ⊤}
 use Rattle.std.specs.Ordering.{match_ordering}
 use Rattle.json.specs.Json as json
 use Rattle.json.specs.Lex.{tokens}
@@ -8,6 +8,10 @@ use Rattle.serde_json.specs.Data.{Data, null, boolean, number, string, array, ob
 use Rattle.serde_json.specs.Find.{get, get_member, as_object}
 use Rattle.serde_json.specs.Read.{number_of, of_json, of_items, of_members, max_depth, read}
 use Rattle.rl_jsonfields.proofs.Compact.{before_all, before_put, flipped}
+use Rattle.rl_jsonfields.specs.declared.names.Field.{Field}
+use Rattle.rl_jsonfields.specs.Names.{spelled}
+use Rattle.rl_jsonfields.specs.Fields.{present, field, an_object, some_members, any_items, not_empty, some_items, shaped, required, optional}
+use Rattle.rl_jsonfields.proofs.Shapes.{shaped_ok, required_where, optional_where}
 use Rattle.rl_jsonfields.specs.Order.{cmp, Before, Ordered, ItemsOrdered, MembersOrdered}
 
 ordered_put_at : (o : Ordering) (k l : List ℕ) (d e : Data) (ms rest : Members) → cmp k l ≡ o → Ordered d → MembersOrdered (member l e ms) → (cmp l k ≡ Less → Before l rest) → MembersOrdered rest
@@ -86,3 +90,102 @@ ordered_object (object ns) ms h e = let k : ns ≡ ms = cc in subst MembersOrder
 pub put_first : (k : List ℕ) (d : Data) (ms : Members) → Before k ms → put k d ms ≡ member k d ms
 put_first k d no_members h = refl
 put_first k d (member l e ms) h = rw (h.0) refl
+
+-- ---- so is what stands at a field
+
+ordered_get : (k : List ℕ) (d v : Data) → Ordered d → get k d ≡ Some v → Ordered v
+ordered_get k null v h e = absurd cc
+ordered_get k (boolean b) v h e = absurd cc
+ordered_get k (number n) v h e = absurd cc
+ordered_get k (string s) v h e = absurd cc
+ordered_get k (array ds) v h e = absurd cc
+ordered_get k (object ms) v h e = ordered_member k ms v h e
+
+ordered_present : (d v : Data) → Ordered d → present d ≡ Some v → Ordered v
+ordered_present null v h e = absurd cc
+ordered_present (boolean b) v h e = subst Ordered (some_is (boolean b) v e) h
+ordered_present (number n) v h e = subst Ordered (some_is (number n) v e) h
+ordered_present (string s) v h e = subst Ordered (some_is (string s) v e) h
+ordered_present (array ds) v h e = subst Ordered (some_is (array ds) v e) h
+ordered_present (object ms) v h e = subst Ordered (some_is (object ms) v e) h
+
+there : (o : Option Data) (v : Data) → ((x : Data) → o ≡ Some x → Ordered x) → option_and_then present o ≡ Some v → Ordered v
+there None v h e = absurd cc
+there (Some x) v h e = ordered_present x v (h x refl) e
+
+ordered_found : (f : Field) (d v : Data) → Ordered d → field f d ≡ Some v → Ordered v
+ordered_found f d v h e = there (get (spelled f) d) v (λ x k. ordered_get (spelled f) d x h k) e
+
+ordered_an_object : (d o : Data) → Ordered d → an_object d ≡ Some o → Ordered o
+ordered_an_object null o h e = absurd cc
+ordered_an_object (boolean b) o h e = absurd cc
+ordered_an_object (number n) o h e = absurd cc
+ordered_an_object (string s) o h e = absurd cc
+ordered_an_object (array ds) o h e = absurd cc
+ordered_an_object (object ms) o h e = subst Ordered (some_is (object ms) o e) h
+
+pub ordered_shaped : (f : Field) (d o : Data) → Ordered d → shaped f (an_object d) ≡ Ok o → Ordered o
+ordered_shaped f d o h e = ordered_an_object d o h (shaped_ok f (an_object d) o e)
+
+pub ordered_field : (f : Field) (d o : Data) → Ordered d → required an_object f d ≡ Ok o → Ordered o
+ordered_field f d o h e =
+    let a = required_where an_object f d o e in
+    ordered_an_object a.0 o (ordered_found f d a.0 h a.1) a.2
+
+each_some : {A : Type 0} (P Q : A → Type 0) (o : Option A) → ((x : A) → P x → Q x) → IfSome o P → IfSome o Q
+each_some P Q None k h = tt
+each_some P Q (Some x) k h = k x h
+
+pub ordered_optional : (f : Field) (d : Data) (o : Option Data) → Ordered d → optional an_object f d ≡ Ok o → IfSome o Ordered
+ordered_optional f d o h e =
+    each_some (λ y. (v : Data) × (field f d ≡ Some v) × (an_object v ≡ Some y)) Ordered o (λ y a. ordered_an_object a.0 y (ordered_found f d a.0 h a.1) a.2) (optional_where an_object f d o e)
+
+pub ordered_required : (f : Field) (d : Data) (ms : Members) → Ordered d → required some_members f d ≡ Ok ms → MembersOrdered ms
+ordered_required f d ms h e =
+    let a = required_where some_members f d ms e in
+    ordered_object a.0 ms (ordered_found f d a.0 h a.1) a.2
+
+or_none : (o : Option Members) → IfSome o MembersOrdered → MembersOrdered (unwrap_or o no_members)
+or_none None h = tt
+or_none (Some ms) h = h
+
+pub ordered_members_at : (f : Field) (d : Data) (o : Option Members) → Ordered d → optional some_members f d ≡ Ok o → MembersOrdered (unwrap_or o no_members)
+ordered_members_at f d o h e =
+    or_none o (each_some (λ ms. (v : Data) × (field f d ≡ Some v) × (some_members v ≡ Some ms)) MembersOrdered o (λ ms a. ordered_object a.0 ms (ordered_found f d a.0 h a.1) a.2) (optional_where some_members f d o e))
+
+items_same : (x y : Items) → Some x ≡ Some y → x ≡ y
+items_same x y e = cc
+
+-- the items of a list
+pub ordered_items_at : (f : Field) (d : Data) (ds : Items) → Ordered d → required some_items f d ≡ Ok ds → ItemsOrdered ds
+ordered_items_at f d ds h e =
+    let a = required_where some_items f d ds e in
+    items_in a.0 ds (ordered_found f d a.0 h a.1) a.2
+  where
+    full : (es ds : Items) → ItemsOrdered es → not_empty es ≡ Some ds → ItemsOrdered ds
+    full no_items ds h e = absurd cc
+    full (item x xs) ds h e = subst ItemsOrdered (items_same (item x xs) ds e) h
+
+    items_in : (v : Data) (ds : Items) → Ordered v → some_items v ≡ Some ds → ItemsOrdered ds
+    items_in null ds h e = absurd cc
+    items_in (boolean b) ds h e = absurd cc
+    items_in (number n) ds h e = absurd cc
+    items_in (string s) ds h e = absurd cc
+    items_in (array es) ds h e = full es ds h e
+    items_in (object ms) ds h e = absurd cc
+
+any_in : (v : Data) (ds : Items) → Ordered v → any_items v ≡ Some ds → ItemsOrdered ds
+any_in null ds h e = absurd cc
+any_in (boolean b) ds h e = absurd cc
+any_in (number n) ds h e = absurd cc
+any_in (string s) ds h e = absurd cc
+any_in (array es) ds h e = subst ItemsOrdered (items_same es ds e) h
+any_in (object ms) ds h e = absurd cc
+
+or_no_items : (o : Option Items) → IfSome o ItemsOrdered → ItemsOrdered (unwrap_or o no_items)
+or_no_items None h = tt
+or_no_items (Some ds) h = h
+
+pub ordered_list_at : (f : Field) (d : Data) (o : Option Items) → Ordered d → optional any_items f d ≡ Ok o → ItemsOrdered (unwrap_or o no_items)
+ordered_list_at f d o h e =
+    or_no_items o (each_some (λ ds. (v : Data) × (field f d ≡ Some v) × (any_items v ≡ Some ds)) ItemsOrdered o (λ ds a. any_in a.0 ds (ordered_found f d a.0 h a.1) a.2) (optional_where any_items f d o e))

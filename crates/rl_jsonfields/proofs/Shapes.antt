@@ -105,6 +105,26 @@ pub optional_ok : {A : Type 0} (shape : Data → Option A) (f : Field) (d : Data
 unfolding optional
 optional_ok shape f d x e = optional_from_ok shape f (field f d) x e
 
+-- what was read at a field, and where
+required_where_from : {A : Type 0} (shape : Data → Option A) (f : Field) (o : Option Data) (x : A) → required_from shape f o ≡ Ok x → (v : Data) × (o ≡ Some v) × (shape v ≡ Some x)
+required_where_from shape f None x e = absurd cc
+required_where_from shape f (Some v) x e = (v, refl, shaped_ok f (shape v) x e)
+
+optional_where_from : {A : Type 0} (shape : Data → Option A) (f : Field) (o : Option Data) (x : Option A) → optional_from shape f o ≡ Ok x → IfSome x (λ y. (v : Data) × (o ≡ Some v) × (shape v ≡ Some y))
+optional_where_from shape f None None e = tt
+optional_where_from shape f None (Some y) e = absurd cc
+optional_where_from shape f (Some v) x e =
+    let a = bind_ok (shaped f (shape v)) (λ y. Ok (Some y)) x e in
+    subst (λ z. IfSome z (λ y. (w : Data) × (Some v ≡ Some w) × (shape w ≡ Some y))) (ok_is (Some a.0) x a.2) (v, refl, shaped_ok f (shape v) a.0 a.1)
+
+pub required_where : {A : Type 0} (shape : Data → Option A) (f : Field) (d : Data) (x : A) → required shape f d ≡ Ok x → (v : Data) × (field f d ≡ Some v) × (shape v ≡ Some x)
+unfolding required
+required_where shape f d x e = required_where_from shape f (field f d) x e
+
+pub optional_where : {A : Type 0} (shape : Data → Option A) (f : Field) (d : Data) (x : Option A) → optional shape f d ≡ Ok x → IfSome x (λ y. (v : Data) × (field f d ≡ Some v) × (shape v ≡ Some y))
+unfolding optional
+optional_where shape f d x e = optional_where_from shape f (field f d) x e
+
 -- a number that was read is in its range, and a text has a length in its range
 pub required_number : (low high : ℕ) (f : Field) (d : Data) (n : ℕ) → required (whole_in low high) f d ≡ Ok n → (low ≤ n) × (n ≤ high)
 required_number low high f d n e =

@@ -1,0 +1,5 @@
+pub mod Again
+pub mod Fits
+pub mod Flatness
+pub mod Ids
+pub mod Named

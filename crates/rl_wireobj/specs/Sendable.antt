@@ -1,10 +1,7 @@
 -- Which operations and objects can be sent: what holds of each that is read of a value whose members stand in
 -- order, and all that it takes for what is written to be read as it again.
-use Rattle.std.specs.Prelude.{ℕ, ◌<◌, ◌^◌, ◌≡◌, ⊤, ℤ, pos, negsuc, List, [], ◌∷◌, IfSome, IsTrue}
+use Rattle.std.specs.Prelude.{ℕ, ⊤, List, IfSome, IsTrue}
 use Rattle.std.specs.List.{All}
-use Rattle.std.specs.declared.cmp.Ordering.TheVariants.{Less}
-use Rattle.std.specs.Cmp.Lexicographic.{slice_cmp}
-use Rattle.std.specs.Ordering.{nat_cmp}
 use Rattle.base64.specs.GeneralPurpose.{IsBytes}
 use Rattle.rl_ids.specs.Forms.{is_site_code}
 use Rattle.rl_ids.specs.Objects.{IsObjectId, IsOpSerial}
@@ -18,27 +15,17 @@ use Rattle.rl_types.specs.declared.objects.MapCell.{MapCell}
 use Rattle.rl_types.specs.declared.objects.ObjectBody.{ObjectBody}
 use Rattle.rl_types.specs.declared.objects.ObjectBody.TheVariants as bodies
 use Rattle.rl_types.specs.declared.objects.ObjectState.{ObjectState}
-
--- a whole number of 64 bits with a sign
-abbrev pub FitsSigned64 : ℤ → Type 0
-FitsSigned64 (pos n) = n < 2 ^ 63
-FitsSigned64 (negsuc n) = n < 2 ^ 63
+use Rattle.rl_jsonfields.specs.Fields.{IsSigned}
+use Rattle.rl_jsonfields.specs.Order.{Rise}
 
 abbrev pub IsValue : MapValue → Type 0
 IsValue (values.Text t) = ⊤
-IsValue (values.Whole n) = FitsSigned64 n
+IsValue (values.Whole n) = IsSigned n
 IsValue (values.Bool b) = ⊤
 IsValue (values.Bytes bytes) = IsBytes bytes
 IsValue (values.Ref id) = IsObjectId id
 
--- each key is before the next ones, byte by byte
-abbrev pub IsBefore : List ℕ → List ℕ → Type 0
-IsBefore k l = slice_cmp nat_cmp k l ≡ Less
-
-abbrev pub Rise : {A : Type 0} → List (List ℕ × A) → Type 0
-Rise [] = ⊤
-Rise (e ∷ es) = All (λ other. IsBefore e.0 other.0) es × Rise es
-
+-- the keys rise, byte by byte
 abbrev pub AreEntries : List (List ℕ × MapValue) → Type 0
 AreEntries es = Rise es × All (λ e. IsValue e.1) es
 
@@ -46,8 +33,8 @@ abbrev pub IsOp : Op → Type 0
 IsOp (ops.MapCreate id entries) = IsObjectId id × AreEntries entries
 IsOp (ops.MapSet id key value) = IsObjectId id × IsValue value
 IsOp (ops.MapRemove id key) = IsObjectId id
-IsOp (ops.CounterCreate id count) = IsObjectId id × FitsSigned64 count
-IsOp (ops.CounterInc id amount) = IsObjectId id × FitsSigned64 amount
+IsOp (ops.CounterCreate id count) = IsObjectId id × IsSigned count
+IsOp (ops.CounterInc id amount) = IsObjectId id × IsSigned amount
 IsOp (ops.Delete id) = IsObjectId id
 
 abbrev pub IsSendableOp : ObjectOp → Type 0
@@ -61,7 +48,7 @@ abbrev pub IsCell : MapCell → Type 0
 IsCell c = IsOpSerial c.serial × IfSome c.value IsValue
 
 abbrev pub IsBody : ObjectBody → Type 0
-IsBody (bodies.Counter sum) = FitsSigned64 sum
+IsBody (bodies.Counter sum) = IsSigned sum
 IsBody (bodies.Map cells) = Rise cells × All (λ c. IsCell c.1) cells
 
 abbrev pub IsSendableState : ObjectState → Type 0

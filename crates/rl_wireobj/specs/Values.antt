@@ -1,5 +1,6 @@
 -- What a key of a map holds, and ids and serials: how they are read, and how they are written.
-use Rattle.std.specs.Prelude.{ℕ, List, Option, Some, None, option_map, option_and_then}
+use Rattle.std.specs.Prelude.{ℕ, nat_lt, Bool, List, Option, Some, None, option_map, option_and_then, if◌then◌else◌}
+use Rattle.std.specs.List.{list_all}
 use Rattle.base64.specs.Engines.{standard}
 use Rattle.base64.specs.GeneralPurpose.{decoded_of, encode_of}
 use Rattle.serde_json.specs.Data.{Data, boolean, string, object, Members, no_members}
@@ -35,8 +36,18 @@ a_number d = option_map values.Whole (signed d)
 abbrev pub a_truth : Data → Option MapValue
 a_truth d = option_map values.Bool (truth d)
 
+-- each number of a decoded text is a byte, which no decoded text fails
+abbrev pub are_bytes : List ℕ → Bool
+are_bytes bytes = list_all (λ b. nat_lt b 256) bytes
+
+abbrev pub if_bytes : List ℕ → Option (List ℕ)
+if_bytes bytes = if are_bytes bytes then Some bytes else None
+
+abbrev pub bytes_of : List ℕ → Option (List ℕ)
+bytes_of t = option_and_then if_bytes (decoded_of standard t)
+
 abbrev pub some_bytes : Data → Option MapValue
-some_bytes d = option_map values.Bytes (option_and_then (decoded_of standard) (as_str d))
+some_bytes d = option_map values.Bytes (option_and_then bytes_of (as_str d))
 
 -- exactly one of five fields
 abbrev pub only_one : (id text number truth bytes : Option Data) → Option MapValue

@@ -4,7 +4,8 @@
 mod actions;
 mod members;
 mod operations;
-mod standin;
+mod states;
 mod values;
 
 pub use operations::{op_value, read_op};
+pub use states::{read_state, state_value};

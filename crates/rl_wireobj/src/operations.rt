@@ -37,6 +37,7 @@ fn semantics_of(object: &Value) -> Result<Option<u64>, WireFault>
     optional_number(object, Field::Semantics, 0, 0)
 }
 
+#[tactic(auto, unfolding(rl_jsonfields::specs::Fields::each_member))]
 fn members_or_none<T: FromMember>(
     alloc: Global,
     members: Option<&Object>,

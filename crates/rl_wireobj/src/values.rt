@@ -3,17 +3,17 @@ ghost use Rattle.std.specs.Prelude.{◌≡◌, IfOk, OnOk};
 ghost use Rattle.serde_json.specs.View.{view, members_view};
 ghost use Rattle.rl_jsonfields.specs.declared.names.Field.TheVariants as fields;
 ghost use Rattle.rl_jsonfields.specs.Fields.{Gives, shaped, required, optional};
-ghost use Rattle.base64.specs.Engines.{standard};
-ghost use Rattle.base64.specs.GeneralPurpose.{decoded_of};
 ghost use Rattle.serde_json.specs.Data.{string};
 ghost use Rattle.rl_ids.specs.Objects.{object_id_text, op_serial_text};
 ghost use Rattle.rl_jsonfields.specs.Texts.{with};
-ghost use Rattle.rl_wireobj.specs.Values.{an_id, a_serial, a_reference, a_text, a_number, a_truth, some_bytes, value_in, a_value, with_value, value_json};
+ghost use Rattle.rl_wireobj.specs.Values.{an_id, a_serial, a_reference, a_text, a_number, a_truth, bytes_of, some_bytes, value_in, a_value, with_value, value_json};
 
-use crate::standin::{read_object_id, read_op_serial, write_op_serial};
 use base64::DecodeAllocError;
 use base64::engine::general_purpose::STANDARD;
-use rl_ids::{Blob, MapValue, NoMemory, ObjectId, OpSerial, Text, write_object_id};
+use rl_ids::{
+    Blob, MapValue, NoMemory, ObjectId, OpSerial, Text, read_object_id, read_op_serial,
+    write_object_id, write_op_serial,
+};
 use rl_jsonfields::{
     Field, Object, bad, check_object, find, missing, set_bool, set_signed, set_text, signed_of,
 };
@@ -114,9 +114,9 @@ fn truth_in(value: &Value) -> Result<MapValue, WireFault>
 }
 
 // The bytes whose padded base64 (RFC 4648, section 4) a text is.
-#[tactic(auto, unfolding(base64::specs::GeneralPurpose::decoded_of))]
+#[tactic(auto, unfolding(base64::specs::GeneralPurpose::decoded_of), using(crate::proofs::Ids::all_bytes))]
 fn bytes_of(alloc: Global, text: &str) -> Result<Blob, WireFault>
-    ensures { Gives result (shaped fields.Data (decoded_of standard text.now)) }
+    ensures { Gives result (shaped fields.Data (bytes_of text.now)) }
 {
     match STANDARD.decode(alloc, text.as_bytes()) {
         Ok(bytes) => Ok(Blob::from_vec(bytes)),
