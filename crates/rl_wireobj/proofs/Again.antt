@@ -312,3 +312,11 @@ state_again s h =
     let ms = put (spelled fields.Object) (object (state_members s)) no_members in
     let k : found fields.Object ms ≡ Some (object (state_members s)) = simp found_rules in
     rw (required_found an_object fields.Object ms (object (state_members s)) (object (state_members s)) k refl refl) (inside_state s h)
+
+-- ---- values that are written
+
+pub written_op : (op : ObjectOp) (d : Data) → d ≡ op_json op → IsSendableOp op → op_at d ≡ Ok op
+written_op op d e h = ap op_at e ∙ op_again op h
+
+pub written_state : (s : ObjectState) (d : Data) → d ≡ state_json s → IsSendableState s → state_at d ≡ Ok s
+written_state s d e h = ap state_at e ∙ state_again s h

@@ -1,11 +1,12 @@
 -- Reading operations and objects fails with the name of a field.
-use Rattle.std.proofs.Common.{ℕ, Bool, true, false, List, Option, Some, None}
+use Rattle.std.proofs.Common.{◌≡◌, ℕ, Bool, true, false, List, Option, Some, None, Err}
+use Rattle.rl_types.specs.declared.frames.WireFault.TheVariants.{NoMemory}
 use Rattle.std.specs.Prelude.{unwrap_or}
 use Rattle.serde_json.specs.Data.{Data, no_members}
 use Rattle.rl_ids.specs.declared.objects.ObjectId.{ObjectId}
 use Rattle.rl_jsonfields.specs.declared.names.Field.TheVariants as fields
 use Rattle.rl_jsonfields.specs.Fields.{Reads, whole_in, signed, text, an_object, some_members, field, each_member}
-use Rattle.rl_jsonfields.proofs.Named.{Named, then_named, shaped_named, required_named as req, optional_named as opt, flag_named, each_member_named}
+use Rattle.rl_jsonfields.proofs.Named.{Named, then_named, shaped_named, required_named as req, optional_named as opt, flag_named, each_member_named, not_memory}
 use Rattle.rl_wireobj.specs.declared.actions.Action.{Action}
 use Rattle.rl_wireobj.specs.declared.actions.Action.TheVariants as actions
 use Rattle.rl_wireobj.specs.Values.{an_id, a_serial, a_value}
@@ -85,3 +86,9 @@ inside_named d =
 pub state_named : (d : Data) → Named (state_at d)
 unfolding state_at
 state_named d = then_named _ _ (shaped_named fields.State (an_object d)) (λ item. then_named _ _ (req an_object fields.Object item) inside_named)
+
+pub no_memory_of_op : (d : Data) → op_at d ≡ Err NoMemory → ⊥
+no_memory_of_op d e = not_memory (op_at d) (op_named d) e
+
+pub no_memory_of_state : (d : Data) → state_at d ≡ Err NoMemory → ⊥
+no_memory_of_state d e = not_memory (state_at d) (state_named d) e

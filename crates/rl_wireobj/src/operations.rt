@@ -1,5 +1,5 @@
 //! What is done to objects: the items of OBJECT frames.
-ghost use Rattle.std.specs.Prelude.{◌≡◌, IfOk, OnOk, option_map, unwrap_or};
+ghost use Rattle.std.specs.Prelude.{◌≡◌, Ok, IfOk, OnOk, option_map, unwrap_or};
 ghost use Rattle.serde_json.specs.Data.{no_members};
 ghost use Rattle.serde_json.specs.View.{view, members_view};
 ghost use Rattle.rl_ids.specs.Objects.{op_serial_text};
@@ -7,6 +7,7 @@ ghost use Rattle.rl_types.specs.declared.objects.Op.TheVariants as ops;
 ghost use Rattle.rl_jsonfields.specs.declared.names.Field.TheVariants as fields;
 ghost use Rattle.rl_jsonfields.specs.Fields.{Gives, each_member};
 ghost use Rattle.rl_jsonfields.specs.Texts.{with_text};
+ghost use Rattle.rl_wireobj.specs.Sendable.{IsSendableOp};
 ghost use Rattle.rl_wireobj.specs.Operations.{semantics, entries_in, entry_at, map_create, map_set, map_remove, counter_create, counter_inc, by_action, operation, op_at, entry_json, entries_json, head_members, operation_members, site_of, op_json};
 
 use crate::actions::{Action, required_action};
@@ -320,9 +321,18 @@ fn set_some_serial(
 }
 
 /// An operation as an item of an OBJECT frame. `serial` is written where it is there, and with it `siteCode`, the site
-/// that gave it; `semantics` is left out, `count` and `entries` are always written.
-#[tactic(auto, unfolding(crate::specs::Operations::op_json))]
+/// that gave it; `semantics` is left out, `count` and `entries` are always written. An operation that can be sent is
+/// read as the same again.
+#[tactic(auto, using(crate::proofs::Again::written_op))]
 pub fn op_value(alloc: Global, op: &ObjectOp) -> Result<Value, NoMemory>
+    ensures value { IfOk result (λ v. view v ≡ op_json op.now) }
+    ensures reads_back { IfOk result (λ v. IsSendableOp op.now → op_at (view v) ≡ Ok op.now) }
+{
+    op_json(alloc, op)
+}
+
+#[tactic(auto, unfolding(crate::specs::Operations::op_json))]
+fn op_json(alloc: Global, op: &ObjectOp) -> Result<Value, NoMemory>
     ensures { IfOk result (λ v. view v ≡ op_json op.now) }
 {
     let operation = operation_object(alloc, &op.op)?;

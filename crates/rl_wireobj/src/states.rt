@@ -1,9 +1,10 @@
 //! Objects as a page shows them: the items of OBJECT_SYNC frames.
-ghost use Rattle.std.specs.Prelude.{◌≡◌, Some, IfOk, OnOk, option_map};
+ghost use Rattle.std.specs.Prelude.{◌≡◌, Ok, Some, IfOk, OnOk, option_map};
 ghost use Rattle.serde_json.specs.View.{view, members_view};
 ghost use Rattle.rl_jsonfields.specs.declared.names.Field.TheVariants as fields;
 ghost use Rattle.rl_jsonfields.specs.Fields.{Gives, field, shaped};
 ghost use Rattle.rl_wireobj.specs.Values.{a_serial};
+ghost use Rattle.rl_wireobj.specs.Sendable.{IsSendableState};
 ghost use Rattle.rl_wireobj.specs.States.{site_with, site_at, sites, none_at, held, cell_at, counter_of, map_of, body_from, body, state_in, state_at, with_held, cell_json, cells_json, nearest, counter_json, with_body, sites_json, state_members, state_json};
 
 use crate::members::{FromMember, ToMember, read_members, write_members};
@@ -316,8 +317,17 @@ fn state_object(alloc: Global, state: &ObjectState) -> Result<Object, NoMemory>
 
 /// An object as an item of an OBJECT_SYNC frame. `semantics` is left out, an entry's `tombstone` is written exactly where
 /// it is true, everything else always. A sum that 64 bits don't hold is written as the nearest number that they hold.
-#[tactic(auto, unfolding(crate::specs::States::state_json))]
+/// An object that can be sent is read as the same again.
+#[tactic(auto, using(crate::proofs::Again::written_state))]
 pub fn state_value(alloc: Global, state: &ObjectState) -> Result<Value, NoMemory>
+    ensures value { IfOk result (λ v. view v ≡ state_json state.now) }
+    ensures reads_back { IfOk result (λ v. IsSendableState state.now → state_at (view v) ≡ Ok state.now) }
+{
+    state_json(alloc, state)
+}
+
+#[tactic(auto, unfolding(crate::specs::States::state_json))]
+fn state_json(alloc: Global, state: &ObjectState) -> Result<Value, NoMemory>
     ensures { IfOk result (λ v. view v ≡ state_json state.now) }
 {
     let inside = state_object(alloc, state)?;
