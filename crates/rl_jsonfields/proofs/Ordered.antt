@@ -116,7 +116,7 @@ there (Some x) v h e = ordered_present x v (h x refl) e
 ordered_found : (f : Field) (d v : Data) → Ordered d → field f d ≡ Some v → Ordered v
 ordered_found f d v h e = there (get (spelled f) d) v (λ x k. ordered_get (spelled f) d x h k) e
 
-ordered_an_object : (d o : Data) → Ordered d → an_object d ≡ Some o → Ordered o
+pub ordered_an_object : (d o : Data) → Ordered d → an_object d ≡ Some o → Ordered o
 ordered_an_object null o h e = absurd cc
 ordered_an_object (boolean b) o h e = absurd cc
 ordered_an_object (number n) o h e = absurd cc
