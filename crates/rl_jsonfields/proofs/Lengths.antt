@@ -238,13 +238,10 @@ integer_field_bound f z ms = omega (arith, name_length f, name_cost f, put_bound
 pub boolean_field_bound : (f : Field) (b : Bool) (ms : Members) → members_bound (put (spelled f) (boolean b) ms) ≤ 140 + members_bound ms
 boolean_field_bound f b ms = omega (arith, name_length f, name_cost f, put_bound (spelled f) (boolean b) ms)
 
--- members with free keys
-module _ {A : Type 0} (key : A → List ℕ) (value : A → Data) (share : A → ℕ) where
-  pub each_member_bound : ((x : A) → 6 * length (key x) + 4 + bound (value x) ≤ share x) → (xs : List A) → members_bound (member_of_each key value xs) ≤ sum_by share xs + 1
-  unfolding member_of_each
-  each_member_bound h [] = omega arith
-  each_member_bound h (x ∷ xs) = omega (arith, h x, quoted_length (key x), each_member_bound h xs, put_bound (key x) (value x) (member_of_each key value xs), sum_by-cons share x xs)
-
 -- the same, with the name's own length
 pub value_named_bound : (f : Field) (d : Data) (ms : Members) → members_bound (put (spelled f) d ms) ≤ length (spelled f) + 4 + bound d + members_bound ms
 value_named_bound f d ms = omega (arith, name_cost f, put_bound (spelled f) d ms)
+
+-- and with a free name
+pub each_bound : (k : List ℕ) (d : Data) (ms : Members) → members_bound (put k d ms) ≤ 6 * length k + 4 + bound d + members_bound ms
+each_bound k d ms = omega (arith, quoted_length k, put_bound k d ms)

@@ -1,5 +1,5 @@
 -- What is written of operations and objects is read as them again.
-use Rattle.std.proofs.Common.{◌≡◌, ℕ, ℤ, pos, negsuc, Bool, true, false, List, Option, Some, None, option_map, Ok, refl, sym, ap, ap₂, ◌∙◌, All, arith}
+use Rattle.std.proofs.Common.{◌≡◌, ℕ, ℤ, pos, negsuc, Bool, true, false, List, Option, Some, None, option_map, Ok, refl, sym, ap, subst, ◌∙◌, All, arith}
 use Rattle.std.specs.Prelude.{IfSome, ◌-◌, ◌^◌}
 use Rattle.std.proofs.lemmas.Bool.{le-ltb}
 use Rattle.serde_json.specs.Data.{Data, boolean, string, object, Members, no_members, put}
@@ -255,6 +255,9 @@ counter_present sum = refl
 nearest_same : (z : ℤ) → IsSigned z → nearest z ≡ z
 nearest_same (pos n) h = rw (le-ltb (2 ^ 63 - 1) n (omega (arith, h))) refl
 nearest_same (negsuc n) h = rw (le-ltb (2 ^ 63 - 1) n (omega (arith, h))) refl
+
+pub nearest_fits : (z : ℤ) → IsSigned z → IsSigned (nearest z)
+nearest_fits z h = subst IsSigned (sym (nearest_same z h)) h
 
 counter_again : (sum : ℤ) → IsSigned sum → counter_of (counter_json sum) ≡ Ok (bodies.Counter sum)
 unfolding counter_of counter_json
