@@ -1,5 +1,5 @@
 -- The compact text of a value is read as that value, where its numbers are whole and its members in order.
-use Rattle.std.proofs.Common.{◌≡◌, ◌≤◌, ◌<◌, ℕ, List, [], Option, Some, None, option_map, Ordering, Less, Equal, Greater, refl, sym, ap, ◌∙◌, arith}
+use Rattle.std.proofs.Common.{◌≡◌, ◌≤◌, ◌<◌, ℕ, ℤ, pos, negsuc, Bool, List, [], ◌∷◌, Option, Some, None, option_map, Ordering, Less, Equal, Greater, refl, sym, ap, ◌∙◌, arith}
 use Rattle.std.specs.Prelude.{option_and_then, ⊤, IfSome, ◌^◌}
 use Rattle.std.proofs.lemmas.Cmp.{nat_list_cmp_total}
 use Rattle.std.specs.Cmp.Lexicographic.{slice_cmp}
@@ -11,28 +11,25 @@ use Rattle.json.specs.Tree.{json_tokens}
 use Rattle.json.specs.Lex.{tokens}
 use Rattle.json.proofs.Printed.Tokens.{tokens-print}
 use Rattle.json.proofs.Printed.Trees.{value-json_tokens, ArePrintable-json_tokens}
-use Rattle.json.proofs.Printed.Decimals.{IsNumber-decimal}
+use Rattle.json.proofs.Printed.Decimals.{IsNumber-decimal, IsNumber-signed_decimal}
 use Rattle.std.proofs.Common.{append-nil}
 use Rattle.serde_json.specs.Data.{Num, unsigned, negative, float, Data, null, boolean, number, string, array, object, Items, no_items, item, Members, no_members, member, put, depth, items_depth, members_depth}
 use Rattle.serde_json.specs.Read.{of_json, of_items, of_members, max_depth, read}
 use Rattle.serde_json.specs.Written.{outline, items_outline, members_outline, compact_text}
-use Rattle.serde_json.proofs.Numbers.{number_of-decimal}
+use Rattle.serde_json.proofs.Numbers.{number_of-decimal, number_of-negative}
 use Rattle.serde_json.proofs.Texts.{print-outline}
 use Rattle.rl_jsonfields.specs.declared.names.Field.{Field}
 use Rattle.rl_jsonfields.specs.Names.{spelled}
-use Rattle.rl_jsonfields.specs.Texts.{with_some, num, with_text, with_number}
-
-abbrev cmp : List ℕ → List ℕ → Ordering
-cmp k l = slice_cmp nat_cmp k l
-
--- k is before each key
-abbrev pub Before : List ℕ → Members → Type 0
-Before k no_members = ⊤
-Before k (member l d ms) = (cmp k l ≡ Less) × Before k ms
+use Rattle.rl_jsonfields.specs.Order.{cmp, Before}
+use Rattle.rl_jsonfields.specs.Texts.{with_some, num, integer, with_text, with_number, member_of_each}
+use Rattle.rl_jsonfields.specs.Fields.{IsSigned}
+use Rattle.std.specs.List.{All}
+use Rattle.std.proofs.lemmas.List.Elements.{All-head, All-tail}
 
 abbrev pub IsWhole : Num → Type 0
 IsWhole (unsigned n) = n < 2 ^ 64
-IsWhole (negative z) = ⊥
+IsWhole (negative (pos n)) = ⊥
+IsWhole (negative (negsuc n)) = n < 2 ^ 63
 IsWhole (float x) = ⊥
 
 -- at every level the numbers are whole and fit, and the members stand in order, each once
@@ -55,7 +52,7 @@ abbrev mutual
 
 -- ---- what is written is plain
 
-before_all : (k l : List ℕ) (ms : Members) → cmp k l ≡ Less → Before l ms → Before k ms
+pub before_all : (k l : List ℕ) (ms : Members) → cmp k l ≡ Less → Before l ms → Before k ms
 before_all k l no_members e h = tt
 before_all k l (member m d ms) e h = (nat_list_cmp_total.trans k l m e h.0, before_all k l ms e h.1)
 
@@ -64,11 +61,11 @@ before_put_at Less j k l d e ms rest lt h r = (lt, h)
 before_put_at Equal j k l d e ms rest lt h r = h
 before_put_at Greater j k l d e ms rest lt h r = (h.0, r)
 
-before_put : (j k : List ℕ) (d : Data) (ms : Members) → cmp j k ≡ Less → Before j ms → Before j (put k d ms)
+pub before_put : (j k : List ℕ) (d : Data) (ms : Members) → cmp j k ≡ Less → Before j ms → Before j (put k d ms)
 before_put j k d no_members lt h = (lt, tt)
 before_put j k d (member l e ms) lt h = before_put_at (cmp k l) j k l d e ms (put k d ms) lt h (before_put j k d ms lt h.1)
 
-flipped : (k l : List ℕ) → cmp k l ≡ Greater → cmp l k ≡ Less
+pub flipped : (k l : List ℕ) → cmp k l ≡ Greater → cmp l k ≡ Less
 flipped k l e = nat_list_cmp_total.antisymm l k ∙ ap ordering_reverse e
 
 turned : (k l : List ℕ) → cmp k l ≡ Less → cmp l k ≡ Greater
@@ -112,6 +109,22 @@ pub with_number_orderly : (f : Field) (o : Option ℕ) (ms : Members) → IfSome
 with_number_orderly f None ms h p = p
 with_number_orderly f (Some n) ms h p = number_orderly f n ms h p
 
+pub integer_plain : (z : ℤ) → IsSigned z → Plain (integer z)
+integer_plain (pos n) h = omega (arith, h)
+integer_plain (negsuc n) h = h
+
+pub integer_orderly : (f : Field) (z : ℤ) (ms : Members) → IsSigned z → Orderly ms → Orderly (put (spelled f) (integer z) ms)
+integer_orderly f z ms h p = put_orderly (spelled f) (integer z) ms (integer_plain z h) p
+
+pub boolean_orderly : (f : Field) (b : Bool) (ms : Members) → Orderly ms → Orderly (put (spelled f) (boolean b) ms)
+boolean_orderly f b ms p = put_orderly (spelled f) (boolean b) ms tt p
+
+-- the values of members with free keys, each plain
+pub each_member_orderly : {A : Type 0} (key : A → List ℕ) (value : A → Data) (P : A → Type 0) (xs : List A) → ((x : A) → P x → Plain (value x)) → All P xs → Orderly (member_of_each key value xs)
+unfolding member_of_each
+each_member_orderly key value P [] h all = nothing_orderly
+each_member_orderly key value P (x ∷ xs) h all = put_orderly (key x) (value x) _ (h x (All-head P x xs all)) (each_member_orderly key value P xs h (All-tail P x xs all))
+
 -- ---- the outline is read as the value
 
 abbrev joined : Members → Members → Members
@@ -154,7 +167,8 @@ none_behind (member k d ms) = (tt, none_behind ms)
 
 number_outlined : (n : Num) → IsWhole n → of_json (outline (number n)) ≡ Some (number n)
 number_outlined (unsigned n) h = ap (option_map number) (number_of-decimal n h)
-number_outlined (negative z) h = absurd h
+number_outlined (negative (pos n)) h = absurd h
+number_outlined (negative (negsuc n)) h = ap (option_map number) (number_of-negative n h)
 number_outlined (float x) h = absurd h
 
 mutual
@@ -180,7 +194,8 @@ mutual
 
 number_printed : (n : Num) → IsWhole n → tree.HasNumbers (outline (number n))
 number_printed (unsigned n) h = IsNumber-decimal n h
-number_printed (negative z) h = absurd h
+number_printed (negative (pos n)) h = absurd h
+number_printed (negative (negsuc n)) h = IsNumber-signed_decimal (negsuc n) h
 number_printed (float x) h = absurd h
 
 mutual

@@ -1,14 +1,14 @@
 -- A written value has no float, and nests little.
-use Rattle.std.proofs.Common.{map, ◌≡◌, ℕ, ◌≤◌, ◌+◌, ◌∷◌, [], List, Bool, true, false, ◌||◌, Option, Some, None, Ordering, Less, Equal, Greater, refl, arith}
+use Rattle.std.proofs.Common.{map, ◌≡◌, ℕ, ℤ, pos, negsuc, ◌≤◌, ◌+◌, ◌∷◌, [], List, Bool, true, false, ◌||◌, Option, Some, None, Ordering, Less, Equal, Greater, refl, arith}
 use Rattle.std.specs.Prelude.{IfSome}
 use Rattle.std.specs.Ordering.{nat_cmp, match_ordering}
 use Rattle.std.specs.Cmp.Lexicographic.{slice_cmp}
-use Rattle.serde_json.specs.Data.{Data, string, array, object, Items, no_items, item, Members, no_members, member, put, depth, items_depth, members_depth}
+use Rattle.serde_json.specs.Data.{Data, boolean, string, array, object, Items, no_items, item, Members, no_members, member, put, depth, items_depth, members_depth}
 use Rattle.serde_json.specs.View.{items_of}
 use Rattle.serde_json.specs.Written.{has_float, items_have_float, members_have_float}
 use Rattle.rl_jsonfields.specs.declared.names.Field.{Field}
 use Rattle.rl_jsonfields.specs.Names.{spelled}
-use Rattle.rl_jsonfields.specs.Texts.{with_some, num, with_text, with_number}
+use Rattle.rl_jsonfields.specs.Texts.{with_some, num, integer, with_text, with_number, member_of_each}
 
 pub record Flat (n : ℕ) (d : Data) : Type 0 where
   pub no_float : has_float d ≡ false
@@ -96,3 +96,16 @@ items_flat n value (x ∷ xs) h = item_flat n (value x) _ (h x) (items_flat n va
 
 pub deeper : (n m : ℕ) (d : Data) → n ≤ m → Flat n d → Flat m d
 deeper n m d h p = record { no_float = p.no_float; shallow = omega (arith, h, p.shallow) }
+
+pub integer_flat : (n : ℕ) (z : ℤ) → Flat n (integer z)
+integer_flat n (pos m) = record { no_float = refl; shallow = omega arith }
+integer_flat n (negsuc m) = record { no_float = refl; shallow = omega arith }
+
+pub boolean_flat : (n : ℕ) (b : Bool) → Flat n (boolean b)
+boolean_flat n b = record { no_float = refl; shallow = omega arith }
+
+-- the values of members with free keys, each flat
+pub each_member_flat : {A : Type 0} (n : ℕ) (key : A → List ℕ) (value : A → Data) (xs : List A) → ((x : A) → Flat n (value x)) → FlatMembers n (member_of_each key value xs)
+unfolding member_of_each
+each_member_flat n key value [] h = nothing n
+each_member_flat n key value (x ∷ xs) h = put_flat n (key x) (value x) _ (h x) (each_member_flat n key value xs h)

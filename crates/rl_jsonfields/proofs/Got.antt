@@ -1,17 +1,17 @@
 -- What a reader finds in an object that was written.
-use Rattle.std.proofs.Common.{◌≡◌, ◌≤◌, ℕ, ◌==◌, Bool, true, false, cond, bytes_eq, List, length, Option, Some, None, option_map, Ok, refl, sym, ap, ◌∙◌}
+use Rattle.std.proofs.Common.{◌≡◌, ◌≤◌, ℕ, ℤ, pos, negsuc, ◌==◌, Bool, true, false, cond, bytes_eq, List, length, Option, Some, None, option_map, Ok, refl, sym, ap, ◌∙◌}
 use Rattle.std.specs.Prelude.{IfSome, unwrap_or}
 use Rattle.std.proofs.lemmas.Bool.{eqb-true}
 use Rattle.std.proofs.lemmas.Slice.Eq.{bytes_eq-Decides}
-use Rattle.serde_json.specs.Data.{Data, string, object, Members, put}
+use Rattle.serde_json.specs.Data.{Data, boolean, string, object, Members, put}
 use Rattle.serde_json.specs.Find.{get_member}
 use Rattle.serde_json.proofs.Views.{get_member-put, get_member-put_other}
 use Rattle.rl_jsonfields.specs.declared.names.Field.{Field}
 use Rattle.rl_jsonfields.specs.Names.{spelled}
-use Rattle.rl_jsonfields.specs.Fields.{text, text_in, whole_in, present, required, optional}
-use Rattle.rl_jsonfields.specs.Texts.{num, with_some, text_unless, number_unless}
+use Rattle.rl_jsonfields.specs.Fields.{Reads, ◌>>=◌, IsSigned, min_signed, max_signed, between, whole, signed, truth, some_members, text, text_in, whole_in, present, required, optional, flag}
+use Rattle.rl_jsonfields.specs.Texts.{num, integer, with_some, text_unless, number_unless}
 use Rattle.rl_jsonfields.proofs.Apart.{index, same_name, other_name}
-use Rattle.rl_jsonfields.proofs.Shapes.{in_range_within, sized_within}
+use Rattle.rl_jsonfields.proofs.Shapes.{in_range_within, sized_within, between_within}
 
 abbrev pub found : Field → Members → Option Data
 found f ms = get_member (spelled f) ms
@@ -94,6 +94,36 @@ each_number low high (Some n) h = in_range_within low high n h.0 h.1
 
 pub number_found : (low high : ℕ) (f : Field) (ms : Members) (o : Option ℕ) → found f ms ≡ option_map num o → IfSome o (λ n. (low ≤ n) × (n ≤ high)) → optional (whole_in low high) f (object ms) ≡ Ok o
 number_found low high f ms o e h = optional_found (whole_in low high) num f ms o e (λ x. refl) (each_number low high o h)
+
+-- a whole number with a sign
+whole_again : (z : ℤ) → whole (integer z) ≡ Some z
+whole_again (pos n) = refl
+whole_again (negsuc n) = refl
+
+pub signed_again : (z : ℤ) → IsSigned z → signed (integer z) ≡ Some z
+signed_again z h = rw (whole_again z) (between_within z h)
+
+pub required_signed_found : (f : Field) (ms : Members) (z : ℤ) → found f ms ≡ Some (integer z) → IsSigned z → required signed f (object ms) ≡ Ok z
+required_signed_found f ms z e h = required_found signed f ms (integer z) z e refl (signed_again z h)
+
+pub optional_signed_found : (f : Field) (ms : Members) (z : ℤ) → found f ms ≡ Some (integer z) → IsSigned z → optional signed f (object ms) ≡ Ok (Some z)
+optional_signed_found f ms z e h = optional_found_one signed f ms (integer z) z e refl (signed_again z h)
+
+-- a truth value
+pub flag_found : (f : Field) (ms : Members) (b : Bool) → found f ms ≡ Some (boolean b) → flag f (object ms) ≡ Ok b
+unfolding flag
+flag_found f ms b e = rw (optional_found_one truth f ms (boolean b) b e refl refl) refl
+
+pub flag_absent : (f : Field) (ms : Members) → found f ms ≡ None → flag f (object ms) ≡ Ok false
+unfolding flag
+flag_absent f ms e = rw (optional_found_none truth f ms e) refl
+
+-- an object with free keys
+pub required_members_found : (f : Field) (ms inside : Members) → found f ms ≡ Some (object inside) → required some_members f (object ms) ≡ Ok inside
+required_members_found f ms inside e = required_found some_members f ms (object inside) inside e refl refl
+
+pub optional_members_found : (f : Field) (ms inside : Members) → found f ms ≡ Some (object inside) → optional some_members f (object ms) ≡ Ok (Some inside)
+optional_members_found f ms inside e = optional_found_one some_members f ms (object inside) inside e refl refl
 
 -- ---- what is left out where it is the default
 

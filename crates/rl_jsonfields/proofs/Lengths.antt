@@ -1,6 +1,7 @@
 -- How long the compact text of a value can be: JSON writes each byte of a text with at most six.
-use Rattle.std.proofs.Common.{◌≤◌, ◌+◌, ◌*◌, ℕ, Bool, true, false, cond, bytes_eq, List, [], ◌∷◌, ◌++◌, length, Option, Some, None, Ordering, Less, Equal, Greater, arith, length-append}
-use Rattle.std.specs.Prelude.{nat_lt}
+use Rattle.std.proofs.Common.{◌≡◌, refl, ◌≤◌, ◌+◌, ◌*◌, ℕ, suc, pos, negsuc, ℤ, Bool, true, false, cond, bytes_eq, List, [], ◌∷◌, ◌++◌, length, Option, Some, None, Ordering, Less, Equal, Greater, arith, length-append}
+use Rattle.std.specs.Prelude.{nat_lt, sum_by}
+use Rattle.std.proofs.lemmas.List.Sums.{sum_by-cons}
 use Rattle.std.proofs.lemmas.Fmt.{length-decimal-le}
 use Rattle.std.specs.Cmp.Lexicographic.{slice_cmp}
 use Rattle.std.specs.Ordering.{nat_cmp, match_ordering}
@@ -11,7 +12,7 @@ use Rattle.rl_types.specs.Weight.{option_len}
 use Rattle.rl_jsonfields.specs.declared.names.Field.{Field}
 use Rattle.rl_jsonfields.specs.declared.names.Field.TheVariants as fields
 use Rattle.rl_jsonfields.specs.Names.{spelled}
-use Rattle.rl_jsonfields.specs.Texts.{num, with_text, with_number, text_unless}
+use Rattle.rl_jsonfields.specs.Texts.{num, integer, with_text, with_number, text_unless, member_of_each}
 use Rattle.rl_jsonfields.proofs.Compact.{IsWhole, Plain, PlainItems, PlainMembers}
 
 -- ---- bounds
@@ -29,10 +30,10 @@ abbrev mutual
   items_bound no_items = 1
   items_bound (item d ds) = bound d + items_bound ds + 1
 
-  -- a name with its quotes, a colon and a comma
+  -- a name as it is written, a colon and a comma
   pub members_bound : Members → ℕ
   members_bound no_members = 1
-  members_bound (member k d ms) = 6 * length k + 4 + bound d + members_bound ms
+  members_bound (member k d ms) = length (quoted k) + 2 + bound d + members_bound ms
 
 -- ---- texts
 
@@ -54,7 +55,8 @@ quoted_length s = omega (arith, escaped s, length-append (escape s) (34 ∷ []))
 
 number_length : (n : Num) → IsWhole n → length (number_text n) ≤ 20
 number_length (unsigned n) h = length-decimal-le 20 n (omega arith) (omega (arith, h)) h
-number_length (negative z) h = absurd h
+number_length (negative (pos n)) h = absurd h
+number_length (negative (negsuc n)) h = omega (arith, length-decimal-le 19 (suc n) (omega arith) (omega (arith, h)) (omega (arith, h)))
 number_length (float x) h = absurd h
 
 boolean_length : (b : Bool) → length (compact_text (boolean b)) ≤ 5
@@ -82,21 +84,75 @@ mutual
   members_length : (later : Bool) (ms : Members) → PlainMembers ms → length (members_text later ms) ≤ members_bound ms
   members_length later no_members h = omega arith
   members_length later (member k d ms) h =
-      omega (arith, comma_length later, quoted_length k, text_length d h.1, members_length true ms h.2, length-append (compact_text d) (members_text true ms), length-append (quoted k) (58 ∷ (compact_text d ++ members_text true ms)), length-append (comma_if later) (quoted k ++ 58 ∷ (compact_text d ++ members_text true ms)))
+      omega (arith, comma_length later, text_length d h.1, members_length true ms h.2, length-append (compact_text d) (members_text true ms), length-append (quoted k) (58 ∷ (compact_text d ++ members_text true ms)), length-append (comma_if later) (quoted k ++ 58 ∷ (compact_text d ++ members_text true ms)))
 
 -- ---- members that are put
 
-put_at : (o : Ordering) (k l : List ℕ) (d e : Data) (ms rest : Members) → members_bound rest ≤ 6 * length k + 4 + bound d + members_bound ms
-    → members_bound (match_ordering o (member k d (member l e ms)) (member l d ms) (member l e rest)) ≤ 6 * length k + 4 + bound d + members_bound (member l e ms)
+put_at : (o : Ordering) (k l : List ℕ) (d e : Data) (ms rest : Members) → members_bound rest ≤ length (quoted k) + 2 + bound d + members_bound ms
+    → members_bound (match_ordering o (member k d (member l e ms)) (member l d ms) (member l e rest)) ≤ length (quoted k) + 2 + bound d + members_bound (member l e ms)
 put_at Less k l d e ms rest h = omega arith
 put_at Equal k l d e ms rest h = omega arith
 put_at Greater k l d e ms rest h = omega (arith, h)
 
-pub put_bound : (k : List ℕ) (d : Data) (ms : Members) → members_bound (put k d ms) ≤ 6 * length k + 4 + bound d + members_bound ms
+pub put_bound : (k : List ℕ) (d : Data) (ms : Members) → members_bound (put k d ms) ≤ length (quoted k) + 2 + bound d + members_bound ms
 put_bound k d no_members = omega arith
 put_bound k d (member l e ms) = put_at (slice_cmp nat_cmp k l) k l d e ms (put k d ms) (put_bound k d ms)
 
 -- ---- fields
+
+-- no name has a character that is written otherwise
+pub name_cost : (f : Field) → length (quoted (spelled f)) ≡ length (spelled f) + 2
+unfolding spelled escape_byte
+name_cost fields.Ack = refl
+name_cost fields.Action = refl
+name_cost fields.Amount = refl
+name_cost fields.Boolean = refl
+name_cost fields.Bytes = refl
+name_cost fields.Channel = refl
+name_cost fields.ChannelSerial = refl
+name_cost fields.ChannelSerials = refl
+name_cost fields.ClientId = refl
+name_cost fields.Code = refl
+name_cost fields.ConnectionDetails = refl
+name_cost fields.ConnectionId = refl
+name_cost fields.ConnectionKey = refl
+name_cost fields.ConnectionStateTtl = refl
+name_cost fields.Count = refl
+name_cost fields.Counter = refl
+name_cost fields.CounterOp = refl
+name_cost fields.Created = refl
+name_cost fields.Data = refl
+name_cost fields.Encoding = refl
+name_cost fields.Entries = refl
+name_cost fields.Error = refl
+name_cost fields.Flags = refl
+name_cost fields.From = refl
+name_cost fields.Id = refl
+name_cost fields.Key = refl
+name_cost fields.Map = refl
+name_cost fields.MapOp = refl
+name_cost fields.MaxIdleInterval = refl
+name_cost fields.MaxMessageSize = refl
+name_cost fields.Message = refl
+name_cost fields.Messages = refl
+name_cost fields.MsgSerial = refl
+name_cost fields.Name = refl
+name_cost fields.Number = refl
+name_cost fields.Object = refl
+name_cost fields.ObjectId = refl
+name_cost fields.Operation = refl
+name_cost fields.Params = refl
+name_cost fields.Presence = refl
+name_cost fields.Semantics = refl
+name_cost fields.Serial = refl
+name_cost fields.SiteCode = refl
+name_cost fields.SiteTimeserials = refl
+name_cost fields.State = refl
+name_cost fields.StatusCode = refl
+name_cost fields.String = refl
+name_cost fields.Timeserial = refl
+name_cost fields.Timestamp = refl
+name_cost fields.Tombstone = refl
 
 name_length : (f : Field) → length (spelled f) ≤ 18
 unfolding spelled
@@ -153,13 +209,13 @@ name_length fields.Tombstone = omega arith
 
 -- a text, and a number, at a field
 pub text_field_bound : (f : Field) (s : List ℕ) (ms : Members) → members_bound (put (spelled f) (string s) ms) ≤ 6 * length s + 120 + members_bound ms
-text_field_bound f s ms = omega (arith, name_length f, put_bound (spelled f) (string s) ms)
+text_field_bound f s ms = omega (arith, name_length f, name_cost f, put_bound (spelled f) (string s) ms)
 
 pub number_field_bound : (f : Field) (n : ℕ) (ms : Members) → members_bound (put (spelled f) (num n) ms) ≤ 140 + members_bound ms
-number_field_bound f n ms = omega (arith, name_length f, put_bound (spelled f) (num n) ms)
+number_field_bound f n ms = omega (arith, name_length f, name_cost f, put_bound (spelled f) (num n) ms)
 
 pub value_field_bound : (f : Field) (d : Data) (ms : Members) → members_bound (put (spelled f) d ms) ≤ bound d + 120 + members_bound ms
-value_field_bound f d ms = omega (arith, name_length f, put_bound (spelled f) d ms)
+value_field_bound f d ms = omega (arith, name_length f, name_cost f, put_bound (spelled f) d ms)
 
 pub some_text_bound : (f : Field) (o : Option (List ℕ)) (ms : Members) → members_bound (with_text f o ms) ≤ 6 * option_len o + 120 + members_bound ms
 some_text_bound f None ms = omega arith
@@ -175,3 +231,17 @@ unless_length false s = omega arith
 
 pub text_unless_length : (t s : List ℕ) → option_len (text_unless t s) ≤ length s
 text_unless_length t s = unless_length (bytes_eq s t) s
+
+pub integer_field_bound : (f : Field) (z : ℤ) (ms : Members) → members_bound (put (spelled f) (integer z) ms) ≤ 140 + members_bound ms
+integer_field_bound f z ms = omega (arith, name_length f, name_cost f, put_bound (spelled f) (integer z) ms)
+
+pub boolean_field_bound : (f : Field) (b : Bool) (ms : Members) → members_bound (put (spelled f) (boolean b) ms) ≤ 140 + members_bound ms
+boolean_field_bound f b ms = omega (arith, name_length f, name_cost f, put_bound (spelled f) (boolean b) ms)
+
+-- the same, with the name's own length
+pub value_named_bound : (f : Field) (d : Data) (ms : Members) → members_bound (put (spelled f) d ms) ≤ length (spelled f) + 4 + bound d + members_bound ms
+value_named_bound f d ms = omega (arith, name_cost f, put_bound (spelled f) d ms)
+
+-- and with a free name
+pub each_bound : (k : List ℕ) (d : Data) (ms : Members) → members_bound (put k d ms) ≤ 6 * length k + 4 + bound d + members_bound ms
+each_bound k d ms = omega (arith, quoted_length k, put_bound k d ms)

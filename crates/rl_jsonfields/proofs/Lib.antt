@@ -6,6 +6,10 @@ pub mod Flat
 pub mod Got
 pub mod Lengths
 pub mod Listed
+pub mod Lists
+pub mod Members
 pub mod Named
+pub mod Ordered
+pub mod Rises
 pub mod Shapes
 pub mod Utf8

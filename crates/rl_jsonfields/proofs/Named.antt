@@ -1,11 +1,11 @@
 -- No reader of fields answers want of memory, or that the bytes are no object.
-use Rattle.std.proofs.Common.{◌≡◌, ℕ, ◌+◌, Bool, true, false, cond, Option, Some, None, Ok, Err, subst}
+use Rattle.std.proofs.Common.{◌≡◌, ℕ, List, ◌+◌, Bool, true, false, cond, Option, Some, None, Ok, Err, subst}
 use Rattle.std.specs.Prelude.{⊤}
-use Rattle.serde_json.specs.Data.{Data, Items, no_items, item}
+use Rattle.serde_json.specs.Data.{Data, Items, no_items, item, Members, no_members, member}
 use Rattle.rl_types.specs.declared.frames.WireFault.{WireFault}
 use Rattle.rl_types.specs.declared.frames.WireFault.TheVariants.{TooLong, NotText, NotJson, NotObject, Missing, BadField, NoMemory}
 use Rattle.rl_jsonfields.specs.declared.names.Field.{Field}
-use Rattle.rl_jsonfields.specs.Fields.{Reads, ◌>>=◌, field, shaped, required_from, optional_from, required, optional, each, each_at}
+use Rattle.rl_jsonfields.specs.Fields.{Reads, ◌>>=◌, field, shaped, required_from, optional_from, truth, required, optional, flag, each, each_at, each_member}
 
 abbrev pub IsNamed : WireFault → Type 0
 IsNamed NoMemory = ⊥
@@ -43,6 +43,15 @@ required_named shape f d = required_from_named shape f (field f d)
 pub optional_named : {A : Type 0} (shape : Data → Option A) (f : Field) (d : Data) → Named (optional shape f d)
 unfolding optional
 optional_named shape f d = optional_from_named shape f (field f d)
+
+pub flag_named : (f : Field) (d : Data) → Named (flag f d)
+unfolding flag
+flag_named f d = then_named _ _ (optional_named truth f d) (λ b. tt)
+
+pub each_member_named : {A : Type 0} (one : List ℕ → Data → Reads A) (ms : Members) → ((k : List ℕ) (d : Data) → Named (one k d)) → Named (each_member one ms)
+unfolding each_member
+each_member_named one no_members h = tt
+each_member_named one (member k d ms) h = then_named _ _ (h k d) (λ x. then_named _ _ (each_member_named one ms h) (λ xs. tt))
 
 pub each_named : {A : Type 0} (one : Data → Reads A) (ds : Items) → ((d : Data) → Named (one d)) → Named (each one ds)
 unfolding each

@@ -1,12 +1,12 @@
 -- What holds of a value that was read: steps, shapes, fields.
-use Rattle.std.proofs.Common.{◌≡◌, ◌≤◌, ℕ, Bool, true, false, cond, List, length, Option, Some, None, Ok, Err, refl, ap, subst, leb}
-use Rattle.std.specs.Prelude.{IfSome, option_and_then, ◌&&◌}
+use Rattle.std.proofs.Common.{◌≡◌, ◌≤◌, ◌<◌, ℕ, ℤ, pos, negsuc, Bool, true, false, cond, List, length, Option, Some, None, Ok, Err, refl, ap, subst, leb, arith}
+use Rattle.std.specs.Prelude.{int_le, ◌-◌, ◌^◌, IfSome, option_and_then, ◌&&◌}
 use Rattle.std.proofs.lemmas.Bool.{leb-true, le-leb}
 use Rattle.serde_json.specs.Data.{Data}
 use Rattle.serde_json.specs.Find.{as_str, as_u64, as_number}
 use Rattle.rl_types.specs.declared.frames.WireFault.{WireFault}
 use Rattle.rl_jsonfields.specs.declared.names.Field.{Field}
-use Rattle.rl_jsonfields.specs.Fields.{Reads, ◌>>=◌, in_range, sized, whole_in, text_in, field, shaped, required_from, optional_from, required, optional}
+use Rattle.rl_jsonfields.specs.Fields.{Reads, ◌>>=◌, IsSigned, min_signed, max_signed, between, whole, signed, in_range, sized, whole_in, text_in, field, shaped, required_from, optional_from, required, optional}
 
 -- ---- steps
 
@@ -105,6 +105,26 @@ pub optional_ok : {A : Type 0} (shape : Data → Option A) (f : Field) (d : Data
 unfolding optional
 optional_ok shape f d x e = optional_from_ok shape f (field f d) x e
 
+-- what was read at a field, and where
+required_where_from : {A : Type 0} (shape : Data → Option A) (f : Field) (o : Option Data) (x : A) → required_from shape f o ≡ Ok x → (v : Data) × (o ≡ Some v) × (shape v ≡ Some x)
+required_where_from shape f None x e = absurd cc
+required_where_from shape f (Some v) x e = (v, refl, shaped_ok f (shape v) x e)
+
+optional_where_from : {A : Type 0} (shape : Data → Option A) (f : Field) (o : Option Data) (x : Option A) → optional_from shape f o ≡ Ok x → IfSome x (λ y. (v : Data) × (o ≡ Some v) × (shape v ≡ Some y))
+optional_where_from shape f None None e = tt
+optional_where_from shape f None (Some y) e = absurd cc
+optional_where_from shape f (Some v) x e =
+    let a = bind_ok (shaped f (shape v)) (λ y. Ok (Some y)) x e in
+    subst (λ z. IfSome z (λ y. (w : Data) × (Some v ≡ Some w) × (shape w ≡ Some y))) (ok_is (Some a.0) x a.2) (v, refl, shaped_ok f (shape v) a.0 a.1)
+
+pub required_where : {A : Type 0} (shape : Data → Option A) (f : Field) (d : Data) (x : A) → required shape f d ≡ Ok x → (v : Data) × (field f d ≡ Some v) × (shape v ≡ Some x)
+unfolding required
+required_where shape f d x e = required_where_from shape f (field f d) x e
+
+pub optional_where : {A : Type 0} (shape : Data → Option A) (f : Field) (d : Data) (x : Option A) → optional shape f d ≡ Ok x → IfSome x (λ y. (v : Data) × (field f d ≡ Some v) × (shape v ≡ Some y))
+unfolding optional
+optional_where shape f d x e = optional_where_from shape f (field f d) x e
+
 -- a number that was read is in its range, and a text has a length in its range
 pub required_number : (low high : ℕ) (f : Field) (d : Data) (n : ℕ) → required (whole_in low high) f d ≡ Ok n → (low ≤ n) × (n ≤ high)
 required_number low high f d n e =
@@ -129,3 +149,39 @@ optional_text_at low high (Some s) h = text_within low high (as_str h.0) s h.1
 
 pub optional_text : (low high : ℕ) (f : Field) (d : Data) (o : Option (List ℕ)) → optional (text_in low high) f d ≡ Ok o → IfSome o (λ s. (low ≤ length s) × (length s ≤ high))
 optional_text low high f d o e = optional_text_at low high o (optional_ok (text_in low high) f d o e)
+
+-- ---- whole numbers with a sign
+
+-- what the tests say of a number
+tested : (z : ℤ) → (int_le min_signed z && int_le z max_signed) ≡ true → IsSigned z
+tested (pos n) e = omega (arith, leb-true n (2 ^ 63 - 1) e)
+tested (negsuc n) e = omega (arith, leb-true n (2 ^ 63 - 1) (first_true (leb n (2 ^ 63 - 1)) true e))
+
+fits_tests : (z : ℤ) → IsSigned z → (int_le min_signed z && int_le z max_signed) ≡ true
+fits_tests (pos n) h = le-leb n (2 ^ 63 - 1) (omega (arith, h))
+fits_tests (negsuc n) h = both_true (leb n (2 ^ 63 - 1)) true (le-leb n (2 ^ 63 - 1) (omega (arith, h))) refl
+
+pub between_is : (z w : ℤ) → between min_signed max_signed z ≡ Some w → IsSigned w
+between_is z w e =
+    let p = passed (int_le min_signed z && int_le z max_signed) z w e in
+    subst IsSigned p.1 (tested z p.0)
+
+pub between_within : (z : ℤ) → IsSigned z → between min_signed max_signed z ≡ Some z
+between_within z h = ap (λ b. cond b (Some z) None) (fits_tests z h)
+
+signed_within : (o : Option ℤ) (w : ℤ) → option_and_then (between min_signed max_signed) o ≡ Some w → IsSigned w
+signed_within None w e = absurd cc
+signed_within (Some z) w e = between_is z w e
+
+pub signed_is : (d : Data) (w : ℤ) → signed d ≡ Some w → IsSigned w
+signed_is d w e = signed_within (whole d) w e
+
+pub required_signed : (f : Field) (d : Data) (z : ℤ) → required signed f d ≡ Ok z → IsSigned z
+required_signed f d z e = let a = required_ok signed f d z e in signed_is a.0 z a.1
+
+optional_signed_at : (o : Option ℤ) → IfSome o (λ z. (v : Data) × (signed v ≡ Some z)) → IfSome o IsSigned
+optional_signed_at None h = tt
+optional_signed_at (Some z) h = signed_is h.0 z h.1
+
+pub optional_signed : (f : Field) (d : Data) (o : Option ℤ) → optional signed f d ≡ Ok o → IfSome o IsSigned
+optional_signed f d o e = optional_signed_at o (optional_ok signed f d o e)

@@ -1,7 +1,7 @@
 -- How a field of a JSON object is read. The first fault wins.
-use Rattle.std.specs.Prelude.{◌≡◌, ℕ, ◌+◌, ◌&&◌, ℤ, List, [], ◌∷◌, length, Option, Some, None, option_and_then, Result, Ok, Err, nat_le, if◌then◌else◌}
-use Rattle.serde_json.specs.Data.{Data, null, boolean, number, string, array, object, Items, no_items, item}
-use Rattle.serde_json.specs.Find.{get, as_number, as_str, as_array, as_u64, as_integer}
+use Rattle.std.specs.Prelude.{◌≡◌, ℕ, ◌+◌, ◌-◌, ◌^◌, ◌<◌, Bool, false, ◌&&◌, ℤ, pos, negsuc, int_le, List, [], ◌∷◌, length, Option, Some, None, option_and_then, unwrap_or, Result, Ok, Err, nat_le, if◌then◌else◌}
+use Rattle.serde_json.specs.Data.{Data, null, boolean, number, string, array, object, Items, no_items, item, Members, no_members, member}
+use Rattle.serde_json.specs.Find.{get, as_bool, as_number, as_str, as_array, as_object, as_u64, as_integer}
 use Rattle.rl_jsonfields.specs.declared.names.Field.{Field}
 use Rattle.rl_jsonfields.specs.Names.{spelled}
 use Rattle.rl_types.specs.declared.frames.WireFault.{WireFault}
@@ -60,6 +60,29 @@ whole d = option_and_then as_integer (as_number d)
 abbrev pub whole_in : ℕ → ℕ → Data → Option ℕ
 whole_in low high d = option_and_then (in_range low high) (option_and_then as_u64 (as_number d))
 
+-- the least and the greatest whole number of 64 bits with a sign
+abbrev pub min_signed : ℤ
+min_signed = negsuc (2 ^ 63 - 1)
+
+abbrev pub max_signed : ℤ
+max_signed = pos (2 ^ 63 - 1)
+
+-- it is from the least to the greatest
+abbrev pub IsSigned : ℤ → Type 0
+IsSigned (pos n) = n < 2 ^ 63
+IsSigned (negsuc n) = n < 2 ^ 63
+
+abbrev pub between : ℤ → ℤ → ℤ → Option ℤ
+between low high z = if int_le low z && int_le z high then Some z else None
+
+-- a whole number of 64 bits with a sign
+abbrev pub signed : Data → Option ℤ
+signed d = option_and_then (between min_signed max_signed) (whole d)
+
+-- a truth value
+abbrev pub truth : Data → Option Bool
+truth d = as_bool d
+
 abbrev pub text : Data → Option (List ℕ)
 text d = as_str d
 
@@ -77,6 +100,10 @@ an_object (number n) = None
 an_object (string s) = None
 an_object (array ds) = None
 an_object (object ms) = Some (object ms)
+
+-- an object, as its members
+abbrev pub some_members : Data → Option Members
+some_members d = as_object d
 
 -- a list
 abbrev pub any_items : Data → Option Items
@@ -112,6 +139,12 @@ required shape f d = required_from shape f (field f d)
 unfoldable pub optional : {A : Type 0} → (Data → Option A) → Field → Data → Reads (Option A)
 optional shape f d = optional_from shape f (field f d)
 
+-- A truth value; absent it is false.
+unfoldable pub flag : Field → Data → Reads Bool
+flag f d = do
+  b ← optional truth f d
+  Ok (unwrap_or b false)
+
 -- the text at a field, where there is one
 abbrev pub text_at : Field → Data → Option (List ℕ)
 text_at f d = option_and_then text (field f d)
@@ -130,4 +163,12 @@ each_at one i no_items = Ok []
 each_at one i (item d ds) = do
   first ← one i d
   others ← each_at one (i + 1) ds
+  Ok (first ∷ others)
+
+-- Each member of an object with its key, in the order of the keys.
+unfoldable pub each_member : {A : Type 0} → (List ℕ → Data → Reads A) → Members → Reads (List A)
+each_member one no_members = Ok []
+each_member one (member k d ms) = do
+  first ← one k d
+  others ← each_member one ms
   Ok (first ∷ others)

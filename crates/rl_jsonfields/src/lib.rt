@@ -12,12 +12,13 @@ mod writing;
 
 pub use names::Field;
 pub use reading::{
-    bad, check_object, check_text, find, missing, optional_any_text, optional_number,
-    optional_object, optional_text, required_any_text, required_number, required_object,
-    required_text, required_whole,
+    bad, check_object, check_text, find, flag, missing, optional_any_text, optional_members,
+    optional_number, optional_object, optional_signed, optional_text, required_any_text,
+    required_members, required_number, required_object, required_signed, required_text,
+    required_whole, signed_of,
 };
 pub use taking::{optional_items, required_items, take_text};
 pub use writing::{
-    Object, set_number, set_number_unless, set_some_number, set_some_text, set_text,
+    Object, set_bool, set_number, set_number_unless, set_signed, set_some_number, set_some_text, set_text,
     set_text_unless, set_value,
 };

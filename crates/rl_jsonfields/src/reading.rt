@@ -1,11 +1,11 @@
 //! Readers of a field of an object. Where a value is no object, none of its fields is there.
 ghost use Rattle.std.specs.Prelude.{◌≡◌, ◌≤◌, length, option_map, IfOk, IfSome};
-ghost use Rattle.serde_json.specs.View.{view};
+ghost use Rattle.serde_json.specs.View.{view, members_view};
 ghost use Rattle.rl_types.specs.declared.frames.WireFault.TheVariants.{Missing, BadField};
 ghost use Rattle.rl_jsonfields.specs.Names.{spelled};
-ghost use Rattle.rl_jsonfields.specs.Fields.{Gives, GivesBy, field, whole, whole_in, text, text_in, text_at, an_object, shaped, required, optional};
+ghost use Rattle.rl_jsonfields.specs.Fields.{Gives, GivesBy, field, whole, whole_in, signed, truth, text, text_in, text_at, an_object, some_members, shaped, required, optional, flag};
 
-use crate::Field;
+use crate::{Field, Object};
 use rl_ids::Text;
 use rl_types::WireFault;
 use serde_json::Value;
@@ -42,6 +42,16 @@ fn whole_of(value: &Value) -> Option<i128>
     value.as_number().and_then(|n| n.as_i128())
 }
 
+/// The whole number of 64 bits with a sign that a value is, or `None` where it is none.
+pub fn signed_of(value: &Value) -> Option<i64>
+    ensures { result ≡ signed (view value.now) }
+{
+    match whole_of(value) {
+        Some(n) if i64::MIN as i128 <= n && n <= i64::MAX as i128 => Some(n as i64),
+        _ => None,
+    }
+}
+
 fn whole_within(value: &Value, low: u64, high: u64) -> Option<u64>
     ensures { result ≡ whole_in low high (view value.now) }
 {
@@ -61,6 +71,55 @@ pub fn required_whole(object: &Value, name: Field) -> Result<i128, WireFault>
         None => Err(missing(name)),
         Some(value) => whole_of(value).ok_or(bad(name)),
     }
+}
+
+/// A whole number of 64 bits with a sign. It is `Missing` where the field is absent, and `BadField` where it has
+/// another shape or is out of this range.
+#[tactic(auto, unfolding(crate::specs::Fields::required))]
+pub fn required_signed(object: &Value, name: Field) -> Result<i64, WireFault>
+    ensures { Gives result (required signed name (view object.now)) }
+{
+    match find(object, name) {
+        None => Err(missing(name)),
+        Some(value) => signed_of(value).ok_or(bad(name)),
+    }
+}
+
+/// A whole number of 64 bits with a sign, or `None` where the field is absent. It is `BadField` where the field
+/// has another shape or is out of this range.
+#[tactic(auto, unfolding(crate::specs::Fields::optional))]
+pub fn optional_signed(object: &Value, name: Field) -> Result<Option<i64>, WireFault>
+    ensures { Gives result (optional signed name (view object.now)) }
+{
+    match find(object, name) {
+        None => Ok(None),
+        Some(value) => match signed_of(value) {
+            Some(n) => Ok(Some(n)),
+            None => Err(bad(name)),
+        },
+    }
+}
+
+#[tactic(auto, unfolding(crate::specs::Fields::optional))]
+fn optional_bool(object: &Value, name: Field) -> Result<Option<bool>, WireFault>
+    ensures { Gives result (optional truth name (view object.now)) }
+{
+    match find(object, name) {
+        None => Ok(None),
+        Some(value) => match value.as_bool() {
+            Some(b) => Ok(Some(b)),
+            None => Err(bad(name)),
+        },
+    }
+}
+
+/// A truth value, which is false where the field is absent. It is `BadField` where the field has another shape.
+#[tactic(auto, unfolding(crate::specs::Fields::flag))]
+pub fn flag(object: &Value, name: Field) -> Result<bool, WireFault>
+    ensures { Gives result (flag name (view object.now)) }
+{
+    let found = optional_bool(object, name)?;
+    Ok(found.unwrap_or(false))
 }
 
 /// A whole number from `low` to `high`. It is `Missing` where the field is absent, and `BadField` where it
@@ -230,5 +289,31 @@ pub fn optional_object<'v>(object: &'v Value, name: Field) -> Result<Option<&'v 
             check_object(value, name)?;
             Ok(Some(value))
         }
+    }
+}
+
+/// An object whose keys are free, as its members. It is `Missing` where the field is absent, and `BadField` where
+/// it has another shape.
+#[tactic(auto, unfolding(crate::specs::Fields::required))]
+pub fn required_members<'v>(object: &'v Value, name: Field) -> Result<&'v Object, WireFault>
+    ensures { GivesBy (λ m. members_view m.now.entries) result (required some_members name (view object.now)) }
+{
+    match find(object, name) {
+        None => Err(missing(name)),
+        Some(Value::Object(members)) => Ok(members),
+        Some(_) => Err(bad(name)),
+    }
+}
+
+/// An object whose keys are free, as its members, or `None` where the field is absent. It is `BadField` where the
+/// field has another shape.
+#[tactic(auto, unfolding(crate::specs::Fields::optional))]
+pub fn optional_members<'v>(object: &'v Value, name: Field) -> Result<Option<&'v Object>, WireFault>
+    ensures { GivesBy (λ o. option_map (λ m. members_view m.now.entries) o) result (optional some_members name (view object.now)) }
+{
+    match find(object, name) {
+        None => Ok(None),
+        Some(Value::Object(members)) => Ok(Some(members)),
+        Some(_) => Err(bad(name)),
     }
 }

@@ -1,8 +1,8 @@
 //! Writers of a field of an object. Where memory ends the object is as before.
 ghost use Rattle.std.specs.Prelude.{◌≡◌, OnOk, OnErr};
-ghost use Rattle.serde_json.specs.Data.{string};
+ghost use Rattle.serde_json.specs.Data.{boolean, string};
 ghost use Rattle.serde_json.specs.View.{view, members_view};
-ghost use Rattle.rl_jsonfields.specs.Texts.{num, with, with_text, with_number, text_unless, number_unless};
+ghost use Rattle.rl_jsonfields.specs.Texts.{num, integer, with, with_text, with_number, text_unless, number_unless};
 
 use crate::Field;
 use rl_ids::{NoMemory, Text};
@@ -37,6 +37,32 @@ pub fn set_number(
     ensures err { OnErr result (object.new.entries ≡ object.old.entries) }
 {
     set_value(alloc, object, name, Value::from(number))
+}
+
+/// Writes a whole number with its sign.
+pub fn set_signed(
+    alloc: Global,
+    object: &mut Object,
+    name: Field,
+    number: i64,
+) -> Result<(), NoMemory>
+    ensures ok { OnOk result (members_view object.new.entries ≡ with name (integer number) (members_view object.old.entries)) }
+    ensures err { OnErr result (object.new.entries ≡ object.old.entries) }
+{
+    set_value(alloc, object, name, Value::from(number))
+}
+
+/// Writes a truth value.
+pub fn set_bool(
+    alloc: Global,
+    object: &mut Object,
+    name: Field,
+    truth: bool,
+) -> Result<(), NoMemory>
+    ensures ok { OnOk result (members_view object.new.entries ≡ with name (boolean truth) (members_view object.old.entries)) }
+    ensures err { OnErr result (object.new.entries ≡ object.old.entries) }
+{
+    set_value(alloc, object, name, Value::Bool(truth))
 }
 
 /// Writes a text.

@@ -1,5 +1,5 @@
 -- What is written of a frame is read as that frame again.
-use Rattle.std.proofs.Common.{◌≡◌, ◌≤◌, ◌<◌, ℕ, true, false, List, length, pos, Option, Some, None, option_map, Ok, refl, ap, ltb, arith}
+use Rattle.std.proofs.Common.{map, All, ◌≡◌, ◌≤◌, ◌<◌, ℕ, true, false, List, length, pos, Option, Some, None, option_map, Ok, refl, ap, ltb, arith}
 use Rattle.std.specs.Prelude.{IfSome}
 use Rattle.std.specs.Str.{is_utf8}
 use Rattle.serde_json.specs.Data.{Data, string, array, object, Members, no_members, put}
@@ -7,6 +7,7 @@ use Rattle.serde_json.specs.Read.{read}
 use Rattle.rl_ids.specs.declared.serials.ChannelSerial.{ChannelSerial}
 use Rattle.rl_ids.specs.Forms.{serial_text, IsSerial}
 use Rattle.rl_ids.proofs.SerialTexts.{serial_back}
+use Rattle.rl_numbers.specs.declared.limits.TheConstants.{MAX_FRAME_SIZE, MAX_MESSAGE_SERIAL, MAX_CHANNEL_NAME}
 use Rattle.rl_types.specs.declared.frames.Cursor.{Cursor}
 use Rattle.rl_types.specs.declared.frames.Frame.{Frame}
 use Rattle.rl_types.specs.declared.frames.Frame.TheVariants as frames
@@ -23,9 +24,18 @@ use Rattle.rl_jsonfields.specs.Texts.{num, with_text}
 use Rattle.rl_jsonfields.proofs.Got.{found, required_found, optional_found_one, text_found, required_text_found, required_sized_found, sized_found, required_number_found, number_found, found_rules}
 use Rattle.rl_wireitems.specs.Items.{sync_head, message_values, presence_values, sync_values, AreMessages, ArePresence}
 use Rattle.rl_wireitems.proofs.Again.{messages_again, presence_again, sync_again, message_values_some, presence_values_some}
-use Rattle.rl_wire.specs.Frames.{max_length, max_serial, max_32, max_64, action_of, channel_serial, given_by, given_of, given_serial, cursor, channel, msg_serial, count, code_in, error_code, head, ack, nack, details, connection_details, connected, disconnected, error, attach, attached, detach, detached, presence, message, sync, by_action, object_frame, frame_at}
+use Rattle.serde_json.specs.View.{items_of}
+use Rattle.rl_types.specs.declared.objects.ObjectOp.{ObjectOp}
+use Rattle.rl_types.specs.declared.objects.ObjectState.{ObjectState}
+use Rattle.rl_jsonfields.proofs.Lists.{list_again, list_some}
+use Rattle.rl_wireobj.specs.Operations.{op_at, op_json}
+use Rattle.rl_wireobj.specs.States.{state_at, state_json}
+use Rattle.rl_wireobj.specs.Sendable.{IsSendableOp, IsSendableState}
+use Rattle.rl_wireobj.proofs.Again.{op_again, state_again}
+use Rattle.rl_wire.specs.declared.details.ConnectionDetails.{ConnectionDetails}
+use Rattle.rl_wire.specs.Frames.{max_32, max_64, action_of, channel_serial, given_by, given_of, given_serial, cursor, channel, msg_serial, count, code_in, error_code, head, ack, nack, details, connection_details, connected, disconnected, error, attach, attached, detach, detached, presence, message, sync, operations, objects, by_action, frame_in, frame_at}
 use Rattle.rl_wire.specs.Sendable.{IsName, Fits32, Fits64, IsMsgSerial, IsCount, IsGiven, IsCursor, IsHead, IsSendable}
-use Rattle.rl_wire.specs.Texts.{action, code_name, error_value, with_error, given_text, cursor_text, head_members, details_value, frame_members, frame_value}
+use Rattle.rl_wire.specs.Texts.{action, code_name, error_value, with_error, given_text, cursor_text, head_members, details_value, details_of, frame_members, frame_value}
 use Rattle.rl_wire.proofs.Cuts.{cursor_again}
 
 abbrev In : ℕ → ℕ → ℕ → Type 0
@@ -45,11 +55,11 @@ up_to_64 n h = omega (arith, h)
 
 channel_again : (ms : Members) (s : List ℕ) → found fields.Channel ms ≡ Some (string s) → IsName s → channel (object ms) ≡ Ok s
 unfolding channel
-channel_again ms s e h = required_sized_found 1 256 fields.Channel ms s e h.0 h.1
+channel_again ms s e h = required_sized_found 1 MAX_CHANNEL_NAME fields.Channel ms s e h.0 h.1
 
 serial_again : (ms : Members) (n : ℕ) → found fields.MsgSerial ms ≡ Some (num n) → IsMsgSerial n → msg_serial (object ms) ≡ Ok n
 unfolding msg_serial
-serial_again ms n e h = required_number_found 0 max_serial fields.MsgSerial ms n e (omega arith) h
+serial_again ms n e h = required_number_found 0 MAX_MESSAGE_SERIAL fields.MsgSerial ms n e (omega arith) h
 
 count_again : (ms : Members) (n : ℕ) → found fields.Count ms ≡ Some (num n) → IsCount n → count (object ms) ≡ Ok n
 unfolding count
@@ -124,37 +134,38 @@ nack_again s c e hs hc he =
     let e3 : found fields.Error ms ≡ Some (error_value e) = simp found_rules in
     rw (serial_again ms s e1 hs, count_again ms c e2 hc, error_again ms (Some e) e3 he) refl
 
-details_again : (key : List ℕ) (ttl idle size : ℕ) → Fits64 ttl → Fits64 idle → Fits64 size → details (details_value key ttl idle size) ≡ Ok (key, ttl, idle, size)
+details_again : (d : ConnectionDetails) → Fits64 d.ttl → Fits64 d.idle → Fits64 d.size → details (details_value d) ≡ Ok d
 unfolding details details_value
-details_again key ttl idle size ht hi hs =
-    let ms = put (spelled fields.MaxMessageSize) (num size) (put (spelled fields.MaxIdleInterval) (num idle) (put (spelled fields.ConnectionStateTtl) (num ttl) (put (spelled fields.ConnectionKey) (string key) no_members))) in
-    let e1 : found fields.ConnectionKey ms ≡ Some (string key) = simp found_rules in
-    let e2 : found fields.ConnectionStateTtl ms ≡ Some (num ttl) = simp found_rules in
-    let e3 : found fields.MaxIdleInterval ms ≡ Some (num idle) = simp found_rules in
-    let e4 : found fields.MaxMessageSize ms ≡ Some (num size) = simp found_rules in
-    rw (required_text_found fields.ConnectionKey ms key e1, number_found 0 max_64 fields.ConnectionStateTtl ms (Some ttl) e2 (omega arith, up_to_64 ttl ht), number_found 0 max_64 fields.MaxIdleInterval ms (Some idle) e3 (omega arith, up_to_64 idle hi), number_found 0 max_64 fields.MaxMessageSize ms (Some size) e4 (omega arith, up_to_64 size hs)) refl
+details_again d ht hi hs =
+    let ms = put (spelled fields.MaxMessageSize) (num d.size) (put (spelled fields.MaxIdleInterval) (num d.idle) (put (spelled fields.ConnectionStateTtl) (num d.ttl) (put (spelled fields.ConnectionKey) (string d.key) no_members))) in
+    let e1 : found fields.ConnectionKey ms ≡ Some (string d.key) = simp found_rules in
+    let e2 : found fields.ConnectionStateTtl ms ≡ Some (num d.ttl) = simp found_rules in
+    let e3 : found fields.MaxIdleInterval ms ≡ Some (num d.idle) = simp found_rules in
+    let e4 : found fields.MaxMessageSize ms ≡ Some (num d.size) = simp found_rules in
+    rw (required_text_found fields.ConnectionKey ms d.key e1, number_found 0 max_64 fields.ConnectionStateTtl ms (Some d.ttl) e2 (omega arith, up_to_64 d.ttl ht), number_found 0 max_64 fields.MaxIdleInterval ms (Some d.idle) e3 (omega arith, up_to_64 d.idle hi), number_found 0 max_64 fields.MaxMessageSize ms (Some d.size) e4 (omega arith, up_to_64 d.size hs)) refl
 
-details_object : (key : List ℕ) (ttl idle size : ℕ) → an_object (details_value key ttl idle size) ≡ Some (details_value key ttl idle size)
+details_object : (d : ConnectionDetails) → an_object (details_value d) ≡ Some (details_value d)
 unfolding details_value
-details_object key ttl idle size = refl
+details_object d = refl
 
-details_present : (key : List ℕ) (ttl idle size : ℕ) → present (details_value key ttl idle size) ≡ Some (details_value key ttl idle size)
+details_present : (d : ConnectionDetails) → present (details_value d) ≡ Some (details_value d)
 unfolding details_value
-details_present key ttl idle size = refl
+details_present d = refl
 
 abbrev connected_members : List ℕ → List ℕ → ℕ → ℕ → ℕ → Option ℕ → Members
 connected_members conn key ttl idle size code =
-    with_error code (put (spelled fields.ConnectionDetails) (details_value key ttl idle size) (put (spelled fields.ConnectionId) (string conn) (action 4)))
+    with_error code (put (spelled fields.ConnectionDetails) (details_value (details_of key ttl idle size)) (put (spelled fields.ConnectionId) (string conn) (action 4)))
 
 connected_again : (conn key : List ℕ) (ttl idle size : ℕ) (code : Option ℕ) → IsSendable (frames.Connected conn key ttl idle size code) → connected (object (connected_members conn key ttl idle size code)) ≡ Ok (frames.Connected conn key ttl idle size code)
 unfolding connected connection_details
 connected_again conn key ttl idle size code h =
     let ms = connected_members conn key ttl idle size code in
-    let d = details_value key ttl idle size in
+    let given_details = details_of key ttl idle size in
+    let d = details_value given_details in
     let e1 : found fields.ConnectionId ms ≡ Some (string conn) = simp found_rules in
     let e2 : found fields.ConnectionDetails ms ≡ Some d = simp found_rules in
     let e3 : found fields.Error ms ≡ option_map error_value code = simp found_rules in
-    rw (required_text_found fields.ConnectionId ms conn e1, required_found an_object fields.ConnectionDetails ms d d e2 (details_present key ttl idle size) (details_object key ttl idle size), details_again key ttl idle size h.0 h.1 h.2, error_again ms code e3 h.3) refl
+    rw (required_text_found fields.ConnectionId ms conn e1, required_found an_object fields.ConnectionDetails ms d d e2 (details_present given_details) (details_object given_details), details_again given_details h.0 h.1 h.2, error_again ms code e3 h.3) refl
 
 disconnected_again : (code : Option ℕ) → IfSome code Fits32 → disconnected (object (with_error code (action 6))) ≡ Ok (frames.Disconnected code)
 unfolding disconnected
@@ -172,7 +183,7 @@ error_frame_again s c hs hc =
     let ms = error_members s c in
     let e1 : found fields.Channel ms ≡ option_map string s = simp found_rules in
     let e2 : found fields.Error ms ≡ Some (error_value c) = simp found_rules in
-    rw (sized_found 1 256 fields.Channel ms s e1 hs, error_again ms (Some c) e2 hc) refl
+    rw (sized_found 1 MAX_CHANNEL_NAME fields.Channel ms s e1 hs, error_again ms (Some c) e2 hc) refl
 
 abbrev attach_members : List ℕ → Option Given → Members
 attach_members s o = with_text fields.ChannelSerial (option_map given_text o) (put (spelled fields.Channel) (string s) (action 10))
@@ -230,9 +241,9 @@ pub record HasHead (ms : Members) (h : Head) : Type 0 where
 head_again : (ms : Members) (h : Head) → HasHead ms h → IsHead h → head (object ms) ≡ Ok h
 unfolding head
 head_again ms h has fits =
-    let msg = each_some IsMsgSerial (In 0 max_serial) h.msg (λ n k. (omega arith, k)) fits.1 in
+    let msg = each_some IsMsgSerial (In 0 MAX_MESSAGE_SERIAL) h.msg (λ n k. (omega arith, k)) fits.1 in
     let stamp = each_some Fits64 (In 0 max_64) h.stamp (λ n k. (omega arith, up_to_64 n k)) fits.3 in
-    rw (channel_again ms h.channel has.channel fits.0, number_found 0 max_serial fields.MsgSerial ms h.msg has.msg msg, optional_serial_again ms h.serial has.serial fits.2, text_found fields.ConnectionId ms h.conn has.conn, text_found fields.Id ms h.id has.id, number_found 0 max_64 fields.Timestamp ms h.stamp has.stamp stamp) refl
+    rw (channel_again ms h.channel has.channel fits.0, number_found 0 MAX_MESSAGE_SERIAL fields.MsgSerial ms h.msg has.msg msg, optional_serial_again ms h.serial has.serial fits.2, text_found fields.ConnectionId ms h.conn has.conn, text_found fields.Id ms h.id has.id, number_found 0 max_64 fields.Timestamp ms h.stamp has.stamp stamp) refl
 
 has_messages_head : (n : ℕ) (h : Head) (d : Data) → HasHead (put (spelled fields.Messages) d (head_members n h)) h
 unfolding head_members
@@ -282,10 +293,42 @@ sync_frame_again s at is hs hc are =
     let e3 : found fields.Presence ms ≡ Some (array (sync_values is)) = simp found_rules in
     rw (channel_again ms s e1 hs, optional_cursor_again ms at e2 hc, optional_found_one any_items fields.Presence ms (array (sync_values is)) (sync_values is) e3 refl refl, sync_again (sync_head s) is are) refl
 
+has_state_head : (n : ℕ) (h : Head) (d : Data) → HasHead (put (spelled fields.State) d (head_members n h)) h
+unfolding head_members
+has_state_head n h d = record {
+  channel = simp found_rules;
+  msg = simp found_rules;
+  serial = simp found_rules;
+  conn = simp found_rules;
+  id = simp found_rules;
+  stamp = simp found_rules;
+}
+
+operations_again : (h : Head) (os : List ObjectOp) → IsHead h → 0 < length os → All IsSendableOp os → operations (object (put (spelled fields.State) (array (items_of (map op_json os))) (head_members 19 h))) ≡ Ok (frames.Object h os)
+unfolding operations
+operations_again h os fits full are =
+    let values = items_of (map op_json os) in
+    let ms = put (spelled fields.State) (array values) (head_members 19 h) in
+    let e : found fields.State ms ≡ Some (array values) = simp found_rules in
+    rw (head_again ms h (has_state_head 19 h (array values)) fits, required_found some_items fields.State ms (array values) values e refl (list_some op_json os full), list_again op_at op_json IsSendableOp op_again os are) refl
+
+abbrev objects_members : List ℕ → Option Cursor → List ObjectState → Members
+objects_members s at ss = put (spelled fields.State) (array (items_of (map state_json ss))) (with_text fields.ChannelSerial (option_map cursor_text at) (put (spelled fields.Channel) (string s) (action 20)))
+
+objects_again : (s : List ℕ) (at : Option Cursor) (ss : List ObjectState) → IsName s → IfSome at IsCursor → All IsSendableState ss → objects (object (objects_members s at ss)) ≡ Ok (frames.ObjectSync s at ss)
+unfolding objects
+objects_again s at ss hs hc are =
+    let values = items_of (map state_json ss) in
+    let ms = objects_members s at ss in
+    let e1 : found fields.Channel ms ≡ Some (string s) = simp found_rules in
+    let e2 : found fields.ChannelSerial ms ≡ option_map string (option_map cursor_text at) = simp found_rules in
+    let e3 : found fields.State ms ≡ Some (array values) = simp found_rules in
+    rw (channel_again ms s e1 hs, optional_cursor_again ms at e2 hc, optional_found_one any_items fields.State ms (array values) values e3 refl refl, list_again state_at state_json IsSendableState state_again ss are) refl
+
 -- ---- whole frames
 
-action_again : (ms : Members) (n : ℕ) (r : Reads (Option Frame)) → found fields.Action ms ≡ Some (num n) → by_action (action_of (pos n)) (object ms) ≡ r → object_frame (object ms) ≡ r
-unfolding object_frame
+action_again : (ms : Members) (n : ℕ) (r : Reads (Option Frame)) → found fields.Action ms ≡ Some (num n) → by_action (action_of (pos n)) (object ms) ≡ r → frame_in (object ms) ≡ r
+unfolding frame_in
 action_again ms n r e h = rw (required_found whole fields.Action ms (num n) (pos n) e refl refl) h
 
 presence_action : (n : ℕ) (h : Head) (d : Data) → found fields.Action (put (spelled fields.Presence) d (head_members n h)) ≡ Some (num n)
@@ -296,30 +339,36 @@ messages_action : (n : ℕ) (h : Head) (d : Data) → found fields.Action (put (
 unfolding head_members
 messages_action n h d = simp found_rules
 
+state_action : (n : ℕ) (h : Head) (d : Data) → found fields.Action (put (spelled fields.State) d (head_members n h)) ≡ Some (num n)
+unfolding head_members
+state_action n h d = simp found_rules
+
 lifted : (r : Reads Frame) (f : Frame) → r ≡ Ok f → (r >>= λ g. Ok (Some g)) ≡ Ok (Some f)
 lifted r f e = rw e refl
 
-pub object_again : (f : Frame) → IsSendable f → object_frame (frame_value f) ≡ Ok (Some f)
+pub members_again : (f : Frame) → IsSendable f → frame_in (frame_value f) ≡ Ok (Some f)
 unfolding frame_members
-object_again frames.Heartbeat h = action_again (action 0) 0 _ (simp found_rules) refl
-object_again (frames.Ack s c) h = action_again (ack_members s c) 1 _ (simp found_rules) (lifted _ _ (ack_again s c h.0 h.1))
-object_again (frames.Nack s c e) h = action_again (nack_members s c e) 2 _ (simp found_rules) (lifted _ _ (nack_again s c e h.0 h.1 h.2))
-object_again frames.Connect h = action_again (action 3) 3 _ (simp found_rules) refl
-object_again (frames.Connected conn key ttl idle size code) h = action_again (connected_members conn key ttl idle size code) 4 _ (simp found_rules) (lifted _ _ (connected_again conn key ttl idle size code h))
-object_again frames.Disconnect h = action_again (action 5) 5 _ (simp found_rules) refl
-object_again (frames.Disconnected code) h = action_again (with_error code (action 6)) 6 _ (simp found_rules) (lifted _ _ (disconnected_again code h))
-object_again frames.Close h = action_again (action 7) 7 _ (simp found_rules) refl
-object_again frames.Closed h = action_again (action 8) 8 _ (simp found_rules) refl
-object_again (frames.Error s c) h = action_again (error_members s c) 9 _ (simp found_rules) (lifted _ _ (error_frame_again s c h.0 h.1))
-object_again (frames.Attach s o) h = action_again (attach_members s o) 10 _ (simp found_rules) (lifted _ _ (attach_again s o h.0 h.1))
-object_again (frames.Attached s serial flags code) h = action_again (attached_members s serial flags code) 11 _ (simp found_rules) (lifted _ _ (attached_again s serial flags code h))
-object_again (frames.Detach s) h = action_again (put (spelled fields.Channel) (string s) (action 12)) 12 _ (simp found_rules) (lifted _ _ (detach_again s h))
-object_again (frames.Detached s code) h = action_again (detached_members s code) 13 _ (simp found_rules) (lifted _ _ (detached_again s code h.0 h.1))
-object_again (frames.Presence h is) f = action_again _ 14 _ (presence_action 14 h (array (presence_values h is))) (lifted _ _ (presence_frame_again h is f.0 f.1 f.2))
-object_again (frames.Message h is) f = action_again _ 15 _ (messages_action 15 h (array (message_values is))) (lifted _ _ (message_frame_again h is f.0 f.1 f.2))
-object_again (frames.Sync s at is) h = action_again (sync_members s at is) 16 _ (simp found_rules) (lifted _ _ (sync_frame_again s at is h.0 h.1 h.2))
-object_again frames.Auth h = action_again (action 17) 17 _ (simp found_rules) refl
+members_again frames.Heartbeat h = action_again (action 0) 0 _ (simp found_rules) refl
+members_again (frames.Ack s c) h = action_again (ack_members s c) 1 _ (simp found_rules) (lifted _ _ (ack_again s c h.0 h.1))
+members_again (frames.Nack s c e) h = action_again (nack_members s c e) 2 _ (simp found_rules) (lifted _ _ (nack_again s c e h.0 h.1 h.2))
+members_again frames.Connect h = action_again (action 3) 3 _ (simp found_rules) refl
+members_again (frames.Connected conn key ttl idle size code) h = action_again (connected_members conn key ttl idle size code) 4 _ (simp found_rules) (lifted _ _ (connected_again conn key ttl idle size code h))
+members_again frames.Disconnect h = action_again (action 5) 5 _ (simp found_rules) refl
+members_again (frames.Disconnected code) h = action_again (with_error code (action 6)) 6 _ (simp found_rules) (lifted _ _ (disconnected_again code h))
+members_again frames.Close h = action_again (action 7) 7 _ (simp found_rules) refl
+members_again frames.Closed h = action_again (action 8) 8 _ (simp found_rules) refl
+members_again (frames.Error s c) h = action_again (error_members s c) 9 _ (simp found_rules) (lifted _ _ (error_frame_again s c h.0 h.1))
+members_again (frames.Attach s o) h = action_again (attach_members s o) 10 _ (simp found_rules) (lifted _ _ (attach_again s o h.0 h.1))
+members_again (frames.Attached s serial flags code) h = action_again (attached_members s serial flags code) 11 _ (simp found_rules) (lifted _ _ (attached_again s serial flags code h))
+members_again (frames.Detach s) h = action_again (put (spelled fields.Channel) (string s) (action 12)) 12 _ (simp found_rules) (lifted _ _ (detach_again s h))
+members_again (frames.Detached s code) h = action_again (detached_members s code) 13 _ (simp found_rules) (lifted _ _ (detached_again s code h.0 h.1))
+members_again (frames.Presence h is) f = action_again _ 14 _ (presence_action 14 h (array (presence_values h is))) (lifted _ _ (presence_frame_again h is f.0 f.1 f.2))
+members_again (frames.Message h is) f = action_again _ 15 _ (messages_action 15 h (array (message_values is))) (lifted _ _ (message_frame_again h is f.0 f.1 f.2))
+members_again (frames.Sync s at is) h = action_again (sync_members s at is) 16 _ (simp found_rules) (lifted _ _ (sync_frame_again s at is h.0 h.1 h.2))
+members_again frames.Auth h = action_again (action 17) 17 _ (simp found_rules) refl
+members_again (frames.Object h os) f = action_again _ 19 _ (state_action 19 h (array (items_of (map op_json os)))) (lifted _ _ (operations_again h os f.0 f.1 f.2))
+members_again (frames.ObjectSync s at ss) h = action_again (objects_members s at ss) 20 _ (simp found_rules) (lifted _ _ (objects_again s at ss h.0 h.1 h.2))
 
-pub bytes_again : (bs : List ℕ) (f : Frame) → ltb max_length (length bs) ≡ false → is_utf8 bs ≡ true → read bs ≡ Some (frame_value f) → IsSendable f → frame_at bs ≡ Ok (Some f)
+pub bytes_again : (bs : List ℕ) (f : Frame) → ltb MAX_FRAME_SIZE (length bs) ≡ false → is_utf8 bs ≡ true → read bs ≡ Some (frame_value f) → IsSendable f → frame_at bs ≡ Ok (Some f)
 unfolding frame_at
-bytes_again bs f short u e h = rw (short, u, e) (object_again f h)
+bytes_again bs f short u e h = rw (short, u, e) (members_again f h)

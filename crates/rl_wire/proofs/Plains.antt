@@ -1,5 +1,5 @@
 -- The numbers of a frame that can be sent are whole and fit, and the members of its value stand in order.
-use Rattle.std.proofs.Common.{option_map, ℕ, ◌<◌, List, Option, Some, None, arith}
+use Rattle.std.proofs.Common.{map, option_map, ℕ, ◌<◌, List, Option, Some, None, arith}
 use Rattle.std.specs.Prelude.{IfSome, ◌^◌}
 use Rattle.serde_json.specs.Data.{string, array, Members, put}
 use Rattle.rl_ids.specs.Forms.{serial_text}
@@ -12,7 +12,14 @@ use Rattle.rl_jsonfields.proofs.Compact.{Plain, Orderly, nothing_orderly, put_or
 use Rattle.rl_wireitems.specs.Items.{message_values, presence_values, sync_values}
 use Rattle.rl_wire.proofs.ItemValues.{message_values_plain, presence_values_plain, sync_values_plain}
 use Rattle.rl_wire.specs.Sendable.{Fits32, Fits64, IsMsgSerial, IsHead, IsSendable}
-use Rattle.rl_wire.specs.Texts.{action, code_name, error_value, with_error, given_text, cursor_text, head_members, details_value, frame_members, frame_value}
+use Rattle.serde_json.specs.View.{items_of}
+use Rattle.rl_jsonfields.proofs.Lists.{list_plain}
+use Rattle.rl_wireobj.specs.Operations.{op_json}
+use Rattle.rl_wireobj.specs.States.{state_json}
+use Rattle.rl_wireobj.specs.Sendable.{IsSendableOp, IsSendableState}
+use Rattle.rl_wireobj.proofs.Plains.{op_plain, state_plain}
+use Rattle.rl_wire.specs.declared.details.ConnectionDetails.{ConnectionDetails}
+use Rattle.rl_wire.specs.Texts.{action, code_name, error_value, with_error, given_text, cursor_text, head_members, details_value, details_of, frame_members, frame_value}
 
 wide : (n : ℕ) → Fits32 n → n < 2 ^ 64
 wide n h = omega (arith, h)
@@ -35,10 +42,10 @@ with_error_plain : (o : Option ℕ) (ms : Members) → IfSome o Fits32 → Order
 with_error_plain None ms h p = p
 with_error_plain (Some c) ms h p = error_member_plain c ms h p
 
-details_plain : (key : List ℕ) (ttl idle size : ℕ) → Fits64 ttl → Fits64 idle → Fits64 size → Plain (details_value key ttl idle size)
+details_plain : (d : ConnectionDetails) → Fits64 d.ttl → Fits64 d.idle → Fits64 d.size → Plain (details_value d)
 unfolding details_value
-details_plain key ttl idle size ht hi hs =
-    (number_orderly fields.MaxMessageSize size _ hs (number_orderly fields.MaxIdleInterval idle _ hi (number_orderly fields.ConnectionStateTtl ttl _ ht (string_orderly fields.ConnectionKey key _ nothing_orderly)))).plain
+details_plain d ht hi hs =
+    (number_orderly fields.MaxMessageSize d.size _ hs (number_orderly fields.MaxIdleInterval d.idle _ hi (number_orderly fields.ConnectionStateTtl d.ttl _ ht (string_orderly fields.ConnectionKey d.key _ nothing_orderly)))).plain
 
 action_plain : (m : ℕ) → m < 2 ^ 64 → Orderly (action m)
 action_plain m h = number_orderly fields.Action m _ h nothing_orderly
@@ -58,7 +65,7 @@ members_orderly (frames.Ack s c) h = number_orderly fields.MsgSerial s _ (serial
 members_orderly (frames.Nack s c e) h = error_member_plain e _ h.2 (number_orderly fields.MsgSerial s _ (serial_wide s h.0) (number_orderly fields.Count c _ (wide c h.1.1) (action_plain 2 (omega arith))))
 members_orderly frames.Connect h = action_plain 3 (omega arith)
 members_orderly (frames.Connected conn key ttl idle size code) h =
-    with_error_plain code _ h.3 (put_orderly (spelled fields.ConnectionDetails) (details_value key ttl idle size) _ (details_plain key ttl idle size h.0 h.1 h.2) (string_orderly fields.ConnectionId conn _ (action_plain 4 (omega arith))))
+    with_error_plain code _ h.3 (put_orderly (spelled fields.ConnectionDetails) (details_value (details_of key ttl idle size)) _ (details_plain (details_of key ttl idle size) h.0 h.1 h.2) (string_orderly fields.ConnectionId conn _ (action_plain 4 (omega arith))))
 members_orderly frames.Disconnect h = action_plain 5 (omega arith)
 members_orderly (frames.Disconnected code) h = with_error_plain code _ h (action_plain 6 (omega arith))
 members_orderly frames.Close h = action_plain 7 (omega arith)
@@ -74,6 +81,10 @@ members_orderly (frames.Message g is) h = put_orderly (spelled fields.Messages) 
 members_orderly (frames.Sync channel at is) h =
     put_orderly (spelled fields.Presence) (array (sync_values is)) _ (sync_values_plain is h.2) (with_text_orderly fields.ChannelSerial (option_map cursor_text at) _ (channel_plain channel 16 (omega arith)))
 members_orderly frames.Auth h = action_plain 17 (omega arith)
+members_orderly (frames.Object g os) h =
+    put_orderly (spelled fields.State) (array (items_of (map op_json os))) _ (list_plain op_json IsSendableOp op_plain os h.2) (head_plain 19 g (omega arith) h.0)
+members_orderly (frames.ObjectSync channel at ss) h =
+    put_orderly (spelled fields.State) (array (items_of (map state_json ss))) _ (list_plain state_json IsSendableState state_plain ss h.2) (with_text_orderly fields.ChannelSerial (option_map cursor_text at) _ (channel_plain channel 20 (omega arith)))
 
 pub frame_plain : (f : Frame) → IsSendable f → Plain (frame_value f)
 frame_plain f h = (members_orderly f h).plain

@@ -1,6 +1,6 @@
 -- How long the text of a frame can be.
 use Rattle.std.proofs.Common.{◌≡◌, ◌≤◌, ◌+◌, ◌*◌, ◌==◌, ℕ, Bool, true, false, cond, List, [], ◌∷◌, length, map, codes, Option, Some, None, option_map, refl, arith, length-append}
-use Rattle.std.specs.Prelude.{unwrap_or, sum_by}
+use Rattle.std.specs.Prelude.{⊤, unwrap_or, sum_by}
 use Rattle.std.proofs.lemmas.List.Sums.{sum_by-cons}
 use Rattle.serde_json.specs.Data.{string, array, Members, no_members, put}
 use Rattle.serde_json.specs.View.{items_of}
@@ -20,9 +20,15 @@ use Rattle.rl_jsonfields.specs.Names.{spelled}
 use Rattle.rl_jsonfields.specs.Texts.{num, with_text, with_number, text_unless, number_unless}
 use Rattle.rl_jsonfields.proofs.Lengths.{bound, items_bound, members_bound, text_length, text_field_bound, number_field_bound, value_field_bound, some_text_bound, some_number_bound, text_unless_length}
 use Rattle.rl_wireitems.specs.Items.{message_value, message_values, number_of, presence_with, presence_value, presence_values, sync_value, sync_values, values_at, id_at}
+use Rattle.rl_wireobj.specs.Operations.{op_json}
+use Rattle.rl_wireobj.specs.States.{state_json}
+use Rattle.rl_wireobj.specs.Sizes.{op_bytes, op_entries, state_bytes, state_cells}
+use Rattle.rl_wireobj.proofs.Lengths.{ops_length, states_length}
+use Rattle.rl_wire.specs.declared.details.ConnectionDetails.{ConnectionDetails}
+use Rattle.rl_wire.specs.Tables.{at_number}
 use Rattle.rl_wire.specs.Sendable.{IsSendable}
-use Rattle.rl_wire.specs.Sizes.{message_bytes, presence_bytes, given_bytes, cursor_bytes, head_bytes, text_bytes, item_count}
-use Rattle.rl_wire.specs.Texts.{action, code_name, error_value, with_error, given_text, cursor_text, head_members, details_value, frame_members, frame_value, frame_text}
+use Rattle.rl_wire.specs.Sizes.{message_bytes, presence_bytes, given_bytes, cursor_bytes, head_bytes, text_bytes, item_count, entry_count, cell_count}
+use Rattle.rl_wire.specs.Texts.{action, code_names, code_name, error_value, with_error, given_text, cursor_text, head_members, details_value, details_of, frame_members, frame_value, frame_text}
 use Rattle.rl_wire.proofs.Plains.{frame_plain}
 
 -- ---- items
@@ -85,13 +91,26 @@ sync_values_length ps = syncs_length ps
 
 -- ---- errors and serials
 
-chosen : (b : Bool) (s t : List ℕ) (n : ℕ) → length s ≤ n → length t ≤ n → length (cond b s t) ≤ n
-chosen true s t n h k = h
-chosen false s t n h k = k
+abbrev AllShort : ℕ → List (ℕ × List ℕ) → Type 0
+AllShort n [] = ⊤
+AllShort n (row ∷ rows) = (length row.1 ≤ n) × AllShort n rows
+
+chosen : (b : Bool) (s : List ℕ) (o : Option (List ℕ)) (n : ℕ) → length s ≤ n → option_len o ≤ n → option_len (cond b (Some s) o) ≤ n
+chosen true s o n h k = h
+chosen false s o n h k = k
+
+or_unknown : (o : Option (List ℕ)) → option_len o ≤ 15 → length (unwrap_or o (codes "Unknown")) ≤ 15
+or_unknown None h = omega arith
+or_unknown (Some s) h = h
+
+-- the longest name in a table
+rows_length : (n c : ℕ) (rows : List (ℕ × List ℕ)) → AllShort n rows → option_len (at_number c rows) ≤ n
+rows_length n c [] h = omega arith
+rows_length n c (row ∷ rows) h = chosen (c == row.0) row.1 (at_number c rows) n h.0 (rows_length n c rows h.1)
 
 name_length : (c : ℕ) → length (code_name c) ≤ 15
 unfolding code_name
-name_length c = chosen (c == 101) (codes "NotRetained") _ 15 (omega arith) (chosen (c == 102) (codes "KeyUnknown") _ 15 (omega arith) (chosen (c == 103) (codes "ChannelLimit") _ 15 (omega arith) (chosen (c == 104) (codes "TooLong") _ 15 (omega arith) (chosen (c == 105) (codes "MemberLimit") _ 15 (omega arith) (chosen (c == 106) (codes "UnknownObject") _ 15 (omega arith) (chosen (c == 107) (codes "DuplicateObject") _ 15 (omega arith) (chosen (c == 108) (codes "StaleId") _ 15 (omega arith) (chosen (c == 109) (codes "Range") _ 15 (omega arith) (chosen (c == 110) (codes "WrongKind") _ 15 (omega arith) (chosen (c == 111) (codes "Tombstoned") _ 15 (omega arith) (chosen (c == 112) (codes "PoolLimit") _ 15 (omega arith) (chosen (c == 113) (codes "BadIds") _ 15 (omega arith) (chosen (c == 114) (codes "NoClientId") _ 15 (omega arith) (chosen (c == 115) (codes "BadAction") _ 15 (omega arith) (chosen (c == 116) (codes "LogFull") _ 15 (omega arith) (chosen (c == 120) (codes "BadFrame") _ 15 (omega arith) (chosen (c == 121) (codes "SerialGap") _ 15 (omega arith) (chosen (c == 122) (codes "SerialOld") _ 15 (omega arith) (chosen (c == 123) (codes "Superseded") _ 15 (omega arith) (chosen (c == 124) (codes "Lagged") _ 15 (omega arith) (chosen (c == 125) (codes "ConnectionLimit") _ 15 (omega arith) (chosen (c == 126) (codes "Idle") _ 15 (omega arith) (omega arith)))))))))))))))))))))))
+name_length c = or_unknown (at_number c code_names) (rows_length 15 c code_names (omega arith, (omega arith, (omega arith, (omega arith, (omega arith, (omega arith, (omega arith, (omega arith, (omega arith, (omega arith, (omega arith, (omega arith, (omega arith, (omega arith, (omega arith, (omega arith, (omega arith, (omega arith, (omega arith, (omega arith, (omega arith, (omega arith, (omega arith, tt))))))))))))))))))))))))
 
 error_length : (c : ℕ) → bound (error_value c) ≤ 520
 unfolding error_value
@@ -142,51 +161,58 @@ head_length n h =
     let e = with_text fields.Id h.id d in
     omega (arith, some_number_bound fields.Timestamp h.stamp e, some_text_bound fields.Id h.id d, some_text_bound fields.ConnectionId h.conn c, some_text_bound fields.ChannelSerial (option_map serial_text h.serial) b, some_serial_length h.serial, some_number_bound fields.MsgSerial h.msg a, channel_length h.channel n)
 
-details_length : (key : List ℕ) (ttl idle size : ℕ) → bound (details_value key ttl idle size) ≤ 6 * length key + 560
+details_length : (d : ConnectionDetails) → bound (details_value d) ≤ 6 * length d.key + 560
 unfolding details_value
-details_length key ttl idle size =
-    let a = put (spelled fields.ConnectionKey) (string key) no_members in
-    let b = put (spelled fields.ConnectionStateTtl) (num ttl) a in
-    let c = put (spelled fields.MaxIdleInterval) (num idle) b in
-    omega (arith, number_field_bound fields.MaxMessageSize size c, number_field_bound fields.MaxIdleInterval idle b, number_field_bound fields.ConnectionStateTtl ttl a, text_field_bound fields.ConnectionKey key no_members)
+details_length d =
+    let a = put (spelled fields.ConnectionKey) (string d.key) no_members in
+    let b = put (spelled fields.ConnectionStateTtl) (num d.ttl) a in
+    let c = put (spelled fields.MaxIdleInterval) (num d.idle) b in
+    omega (arith, number_field_bound fields.MaxMessageSize d.size c, number_field_bound fields.MaxIdleInterval d.idle b, number_field_bound fields.ConnectionStateTtl d.ttl a, text_field_bound fields.ConnectionKey d.key no_members)
 
 abbrev Short : Frame → Type 0
-Short f = members_bound (frame_members f) ≤ 6 * text_bytes f + 1000 * item_count f + 1900
+Short f = members_bound (frame_members f) ≤ 6 * text_bytes f + 1000 * item_count f + 50 * entry_count f + 400 * cell_count f + 1900
 
-members_length : (f : Frame) → Short f
+members_length : (f : Frame) → IsSendable f → Short f
 unfolding frame_members
-members_length frames.Heartbeat = omega (arith, action_length 0)
-members_length (frames.Ack s c) = omega (arith, number_field_bound fields.MsgSerial s (put (spelled fields.Count) (num c) (action 1)), number_field_bound fields.Count c (action 1), action_length 1)
-members_length (frames.Nack s c e) =
+members_length frames.Heartbeat sendable = omega (arith, action_length 0)
+members_length (frames.Ack s c) sendable = omega (arith, number_field_bound fields.MsgSerial s (put (spelled fields.Count) (num c) (action 1)), number_field_bound fields.Count c (action 1), action_length 1)
+members_length (frames.Nack s c e) sendable =
     let a = put (spelled fields.Count) (num c) (action 2) in
     omega (arith, error_field_length e (put (spelled fields.MsgSerial) (num s) a), number_field_bound fields.MsgSerial s a, number_field_bound fields.Count c (action 2), action_length 2)
-members_length frames.Connect = omega (arith, action_length 3)
-members_length (frames.Connected conn key ttl idle size code) =
+members_length frames.Connect sendable = omega (arith, action_length 3)
+members_length (frames.Connected conn key ttl idle size code) sendable =
     let a = put (spelled fields.ConnectionId) (string conn) (action 4) in
-    let d = details_value key ttl idle size in
-    omega (arith, with_error_length code (put (spelled fields.ConnectionDetails) d a), value_field_bound fields.ConnectionDetails d a, details_length key ttl idle size, text_field_bound fields.ConnectionId conn (action 4), action_length 4)
-members_length frames.Disconnect = omega (arith, action_length 5)
-members_length (frames.Disconnected code) = omega (arith, with_error_length code (action 6), action_length 6)
-members_length frames.Close = omega (arith, action_length 7)
-members_length frames.Closed = omega (arith, action_length 8)
-members_length (frames.Error channel code) = omega (arith, error_field_length code (with_text fields.Channel channel (action 9)), some_text_bound fields.Channel channel (action 9), action_length 9)
-members_length (frames.Attach channel serial) =
+    let given_details = details_of key ttl idle size in
+    let d = details_value given_details in
+    omega (arith, with_error_length code (put (spelled fields.ConnectionDetails) d a), value_field_bound fields.ConnectionDetails d a, details_length given_details, text_field_bound fields.ConnectionId conn (action 4), action_length 4)
+members_length frames.Disconnect sendable = omega (arith, action_length 5)
+members_length (frames.Disconnected code) sendable = omega (arith, with_error_length code (action 6), action_length 6)
+members_length frames.Close sendable = omega (arith, action_length 7)
+members_length frames.Closed sendable = omega (arith, action_length 8)
+members_length (frames.Error channel code) sendable = omega (arith, error_field_length code (with_text fields.Channel channel (action 9)), some_text_bound fields.Channel channel (action 9), action_length 9)
+members_length (frames.Attach channel serial) sendable =
     omega (arith, some_text_bound fields.ChannelSerial (option_map given_text serial) (put (spelled fields.Channel) (string channel) (action 10)), given_length serial, channel_length channel 10)
-members_length (frames.Attached channel serial flags code) =
+members_length (frames.Attached channel serial flags code) sendable =
     let a = put (spelled fields.Channel) (string channel) (action 11) in
     let b = put (spelled fields.ChannelSerial) (string (serial_text serial)) a in
     omega (arith, with_error_length code (put (spelled fields.Flags) (num flags) b), number_field_bound fields.Flags flags b, text_field_bound fields.ChannelSerial (serial_text serial) a, serial_length serial, channel_length channel 11)
-members_length (frames.Detach channel) = omega (arith, channel_length channel 12)
-members_length (frames.Detached channel code) = omega (arith, with_error_length code (put (spelled fields.Channel) (string channel) (action 13)), channel_length channel 13)
-members_length (frames.Presence h is) =
+members_length (frames.Detach channel) sendable = omega (arith, channel_length channel 12)
+members_length (frames.Detached channel code) sendable = omega (arith, with_error_length code (put (spelled fields.Channel) (string channel) (action 13)), channel_length channel 13)
+members_length (frames.Presence h is) sendable =
     omega (arith, value_field_bound fields.Presence (array (presence_values h is)) (head_members 14 h), presence_values_length h is, head_length 14 h)
-members_length (frames.Message h is) =
+members_length (frames.Message h is) sendable =
     omega (arith, value_field_bound fields.Messages (array (message_values is)) (head_members 15 h), message_values_length is, head_length 15 h)
-members_length (frames.Sync channel at is) =
+members_length (frames.Sync channel at is) sendable =
     let a = put (spelled fields.Channel) (string channel) (action 16) in
     let b = with_text fields.ChannelSerial (option_map cursor_text at) a in
     omega (arith, value_field_bound fields.Presence (array (sync_values is)) b, sync_values_length is, some_text_bound fields.ChannelSerial (option_map cursor_text at) a, cursor_length at, channel_length channel 16)
-members_length frames.Auth = omega (arith, action_length 17)
+members_length frames.Auth sendable = omega (arith, action_length 17)
+members_length (frames.Object h os) sendable =
+    omega (arith, value_field_bound fields.State (array (items_of (map op_json os))) (head_members 19 h), ops_length os sendable.2, head_length 19 h)
+members_length (frames.ObjectSync channel at ss) sendable =
+    let a = put (spelled fields.Channel) (string channel) (action 20) in
+    let b = with_text fields.ChannelSerial (option_map cursor_text at) a in
+    omega (arith, value_field_bound fields.State (array (items_of (map state_json ss))) b, states_length ss sendable.2, some_text_bound fields.ChannelSerial (option_map cursor_text at) a, cursor_length at, channel_length channel 20)
 
-pub frame_length : (f : Frame) → IsSendable f → length (frame_text f) ≤ 6 * text_bytes f + 1000 * item_count f + 2000
-frame_length f h = omega (arith, text_length (frame_value f) (frame_plain f h), members_length f)
+pub frame_length : (f : Frame) → IsSendable f → length (frame_text f) ≤ 6 * text_bytes f + 1000 * item_count f + 50 * entry_count f + 400 * cell_count f + 2000
+frame_length f h = omega (arith, text_length (frame_value f) (frame_plain f h), members_length f h)

@@ -1,10 +1,12 @@
 -- What bytes are as a frame: a frame, an unknown action, or the first fault.
-use Rattle.std.specs.Prelude.{ℕ, ◌^◌, ◌-◌, ◌==◌, ℤ, pos, negsuc, Bool, List, length, not, Option, Some, None, option_map, option_and_then, unwrap_or, Ok, Err, nat_lt, if◌then◌else◌}
+use Rattle.std.specs.Prelude.{ℕ, ◌^◌, ◌-◌, ◌==◌, ℤ, pos, negsuc, Bool, List, [], ◌∷◌, length, not, Option, Some, None, option_map, option_and_then, unwrap_or, Ok, Err, nat_lt, if◌then◌else◌}
 use Rattle.std.specs.List.{position_or_len, before_first, after_first}
 use Rattle.std.specs.Str.{is_utf8}
 use Rattle.serde_json.specs.Data.{Data, no_items}
 use Rattle.serde_json.specs.Find.{as_str}
 use Rattle.serde_json.specs.Read.{read}
+use Rattle.rl_numbers.specs.declared.actions.TheConstants.{HEARTBEAT, ACK, NACK, CONNECT, CONNECTED, DISCONNECT, DISCONNECTED, CLOSE, CLOSED, ERROR, ATTACH, ATTACHED, DETACH, DETACHED, PRESENCE, MESSAGE, SYNC, AUTH, OBJECT, OBJECT_SYNC}
+use Rattle.rl_numbers.specs.declared.limits.TheConstants.{MAX_FRAME_SIZE, MAX_MESSAGE_SERIAL, MAX_CHANNEL_NAME, CONNECTION_STATE_TTL, MAX_IDLE_INTERVAL, MAX_MESSAGE_SIZE}
 use Rattle.rl_ids.specs.declared.serials.ChannelSerial.{ChannelSerial}
 use Rattle.rl_ids.specs.Forms.{serial_of}
 use Rattle.rl_types.specs.declared.frames.Cursor.{Cursor}
@@ -15,18 +17,14 @@ use Rattle.rl_types.specs.declared.frames.WireFault.TheVariants.{TooLong, NotTex
 use Rattle.rl_types.specs.declared.messages.Given.{Given}
 use Rattle.rl_types.specs.declared.messages.Given.TheVariants as given
 use Rattle.rl_jsonfields.specs.declared.names.Field.TheVariants as fields
-use Rattle.rl_jsonfields.specs.Fields.{Reads, ◌>>=◌, whole, whole_in, text, text_in, an_object, any_items, some_items, required, optional}
+use Rattle.rl_jsonfields.specs.Fields.{Reads, ◌>>=◌, whole, whole_in, text, text_in, an_object, any_items, some_items, required, optional, each}
 use Rattle.rl_wireitems.specs.Items.{message_items, presence_items, sync_head}
+use Rattle.rl_wireobj.specs.Operations.{op_at}
+use Rattle.rl_wireobj.specs.States.{state_at}
 use Rattle.rl_wire.specs.declared.actions.Action.{Action}
 use Rattle.rl_wire.specs.declared.actions.Action.TheVariants as actions
-
--- how many bytes a frame may have
-abbrev pub max_length : ℕ
-max_length = 4194304
-
--- the greatest message serial
-abbrev pub max_serial : ℕ
-max_serial = 2 ^ 53 - 1
+use Rattle.rl_wire.specs.declared.details.ConnectionDetails.{ConnectionDetails}
+use Rattle.rl_wire.specs.Tables.{at_number}
 
 -- the greatest numbers of 32 and of 64 bits
 abbrev pub max_32 : ℕ
@@ -37,13 +35,16 @@ max_64 = 2 ^ 64 - 1
 
 -- ---- actions
 
+-- each action with its number
+abbrev pub action_numbers : List (ℕ × Action)
+action_numbers =
+    (HEARTBEAT, actions.Heartbeat) ∷ (ACK, actions.Ack) ∷ (NACK, actions.Nack) ∷ (CONNECT, actions.Connect) ∷ (CONNECTED, actions.Connected)
+    ∷ (DISCONNECT, actions.Disconnect) ∷ (DISCONNECTED, actions.Disconnected) ∷ (CLOSE, actions.Close) ∷ (CLOSED, actions.Closed) ∷ (ERROR, actions.Error)
+    ∷ (ATTACH, actions.Attach) ∷ (ATTACHED, actions.Attached) ∷ (DETACH, actions.Detach) ∷ (DETACHED, actions.Detached) ∷ (PRESENCE, actions.Presence)
+    ∷ (MESSAGE, actions.Message) ∷ (SYNC, actions.Sync) ∷ (AUTH, actions.Auth) ∷ (OBJECT, actions.Object) ∷ (OBJECT_SYNC, actions.ObjectSync) ∷ []
+
 abbrev pub action_at : ℕ → Option Action
-action_at n =
-    if n == 0 then Some actions.Heartbeat else (if n == 1 then Some actions.Ack else (if n == 2 then Some actions.Nack else (if n == 3 then Some actions.Connect else
-    (if n == 4 then Some actions.Connected else (if n == 5 then Some actions.Disconnect else (if n == 6 then Some actions.Disconnected else (if n == 7 then Some actions.Close else
-    (if n == 8 then Some actions.Closed else (if n == 9 then Some actions.Error else (if n == 10 then Some actions.Attach else (if n == 11 then Some actions.Attached else
-    (if n == 12 then Some actions.Detach else (if n == 13 then Some actions.Detached else (if n == 14 then Some actions.Presence else (if n == 15 then Some actions.Message else
-    (if n == 16 then Some actions.Sync else (if n == 17 then Some actions.Auth else None)))))))))))))))))
+action_at n = at_number n action_numbers
 
 -- A whole number that isn't in the table is an unknown action.
 abbrev pub action_of : ℤ → Option Action
@@ -80,10 +81,10 @@ cursor d = option_and_then cursor_of (as_str d)
 -- ---- fields of several actions
 
 unfoldable pub channel : Data → Reads (List ℕ)
-channel d = required (text_in 1 256) fields.Channel d
+channel d = required (text_in 1 MAX_CHANNEL_NAME) fields.Channel d
 
 unfoldable pub msg_serial : Data → Reads ℕ
-msg_serial d = required (whole_in 0 max_serial) fields.MsgSerial d
+msg_serial d = required (whole_in 0 MAX_MESSAGE_SERIAL) fields.MsgSerial d
 
 -- an absent count is 1
 unfoldable pub count : Data → Reads ℕ
@@ -106,7 +107,7 @@ error_code d = do
 unfoldable pub head : Data → Reads Head
 head d = do
   name ← channel d
-  msg ← optional (whole_in 0 max_serial) fields.MsgSerial d
+  msg ← optional (whole_in 0 MAX_MESSAGE_SERIAL) fields.MsgSerial d
   serial ← optional channel_serial fields.ChannelSerial d
   conn ← optional text fields.ConnectionId d
   id ← optional text fields.Id d
@@ -129,16 +130,16 @@ nack d = do
   code ← error_code d
   Ok (frames.Nack serial n (unwrap_or code 0))
 
--- the key, and three numbers that have a value where they are absent
-unfoldable pub details : Data → Reads (List ℕ × ℕ × ℕ × ℕ)
+-- three numbers have a value where they are absent
+unfoldable pub details : Data → Reads ConnectionDetails
 details d = do
   key ← required text fields.ConnectionKey d
   ttl ← optional (whole_in 0 max_64) fields.ConnectionStateTtl d
   idle ← optional (whole_in 0 max_64) fields.MaxIdleInterval d
   size ← optional (whole_in 0 max_64) fields.MaxMessageSize d
-  Ok (key, unwrap_or ttl 120000, unwrap_or idle 15000, unwrap_or size 65536)
+  Ok (record { key = key; ttl = unwrap_or ttl CONNECTION_STATE_TTL; idle = unwrap_or idle MAX_IDLE_INTERVAL; size = unwrap_or size MAX_MESSAGE_SIZE })
 
-unfoldable pub connection_details : Data → Reads (List ℕ × ℕ × ℕ × ℕ)
+unfoldable pub connection_details : Data → Reads ConnectionDetails
 connection_details d = required an_object fields.ConnectionDetails d >>= details
 
 unfoldable pub connected : Data → Reads Frame
@@ -146,7 +147,7 @@ connected d = do
   conn ← required text fields.ConnectionId d
   found ← connection_details d
   code ← error_code d
-  Ok (frames.Connected conn found.0 found.1 found.2 found.3 code)
+  Ok (frames.Connected conn found.key found.ttl found.idle found.size code)
 
 unfoldable pub disconnected : Data → Reads Frame
 disconnected d = do
@@ -156,7 +157,7 @@ disconnected d = do
 -- an absent error is code 0
 unfoldable pub error : Data → Reads Frame
 error d = do
-  name ← optional (text_in 1 256) fields.Channel d
+  name ← optional (text_in 1 MAX_CHANNEL_NAME) fields.Channel d
   code ← error_code d
   Ok (frames.Error name (unwrap_or code 0))
 
@@ -209,6 +210,23 @@ sync d = do
   items ← presence_items (sync_head name) (unwrap_or values no_items)
   Ok (frames.Sync name at items)
 
+-- the operations of an OBJECT frame
+unfoldable pub operations : Data → Reads Frame
+operations d = do
+  h ← head d
+  values ← required some_items fields.State d
+  ops ← each op_at values
+  Ok (frames.Object h ops)
+
+-- the objects of an OBJECT_SYNC frame; an absent list is empty
+unfoldable pub objects : Data → Reads Frame
+objects d = do
+  name ← channel d
+  at ← optional cursor fields.ChannelSerial d
+  values ← optional any_items fields.State d
+  states ← each state_at (unwrap_or values no_items)
+  Ok (frames.ObjectSync name at states)
+
 abbrev pub by_action : Option Action → Data → Reads (Option Frame)
 by_action None d = Ok None
 by_action (Some actions.Heartbeat) d = Ok (Some frames.Heartbeat)
@@ -229,19 +247,21 @@ by_action (Some actions.Presence) d = presence d >>= λ f. Ok (Some f)
 by_action (Some actions.Message) d = message d >>= λ f. Ok (Some f)
 by_action (Some actions.Sync) d = sync d >>= λ f. Ok (Some f)
 by_action (Some actions.Auth) d = Ok (Some frames.Auth)
+by_action (Some actions.Object) d = operations d >>= λ f. Ok (Some f)
+by_action (Some actions.ObjectSync) d = objects d >>= λ f. Ok (Some f)
 
-unfoldable pub object_frame : Data → Reads (Option Frame)
-object_frame d = do
+unfoldable pub frame_in : Data → Reads (Option Frame)
+frame_in d = do
   n ← required whole fields.Action d
   by_action (action_of n) d
 
 abbrev pub value_frame : Option Data → Reads (Option Frame)
 value_frame None = Err NotObject
-value_frame (Some d) = object_frame d
+value_frame (Some d) = frame_in d
 
 abbrev pub json_frame : Option Data → Reads (Option Frame)
 json_frame None = Err NotJson
 json_frame (Some d) = value_frame (an_object d)
 
 unfoldable pub frame_at : List ℕ → Reads (Option Frame)
-frame_at bytes = if nat_lt max_length (length bytes) then Err TooLong else (if not (is_utf8 bytes) then Err NotText else json_frame (read bytes))
+frame_at bytes = if nat_lt MAX_FRAME_SIZE (length bytes) then Err TooLong else (if not (is_utf8 bytes) then Err NotText else json_frame (read bytes))

@@ -1,4 +1,5 @@
 pub mod Frames
 pub mod Sendable
 pub mod Sizes
+pub mod Tables
 pub mod Texts

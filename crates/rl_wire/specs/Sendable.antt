@@ -1,7 +1,8 @@
 -- Which frames can be sent: what holds of each frame that bytes are, and all that it takes for a frame's text to
 -- be read as it again.
 use Rattle.std.specs.Prelude.{◌≡◌, ℕ, ◌≤◌, ◌<◌, ◌^◌, ⊤, List, length, not, None, IfSome, IsTrue}
-use Rattle.std.specs.List.{list_all}
+use Rattle.std.specs.List.{All, list_all}
+use Rattle.rl_numbers.specs.declared.limits.TheConstants.{MAX_MESSAGE_SERIAL, MAX_CHANNEL_NAME}
 use Rattle.rl_ids.specs.Forms.{serial_of, IsSerial}
 use Rattle.rl_types.specs.declared.frames.Cursor.{Cursor}
 use Rattle.rl_types.specs.declared.frames.Frame.{Frame}
@@ -10,11 +11,12 @@ use Rattle.rl_types.specs.declared.frames.Head.{Head}
 use Rattle.rl_types.specs.declared.messages.Given.{Given}
 use Rattle.rl_types.specs.declared.messages.Given.TheVariants as given
 use Rattle.rl_wireitems.specs.Items.{AreMessages, ArePresence}
-use Rattle.rl_wire.specs.Frames.{max_serial, is_colon}
+use Rattle.rl_wireobj.specs.Sendable.{IsSendableOp, IsSendableState}
+use Rattle.rl_wire.specs.Frames.{is_colon}
 
--- a channel's name has 1 to 256 bytes
+-- a channel's name has at least 1 byte
 abbrev pub IsName : List ℕ → Type 0
-IsName s = (0 < length s) × (length s ≤ 256)
+IsName s = (0 < length s) × (length s ≤ MAX_CHANNEL_NAME)
 
 abbrev pub Fits32 : ℕ → Type 0
 Fits32 n = n < 2 ^ 32
@@ -23,7 +25,7 @@ abbrev pub Fits64 : ℕ → Type 0
 Fits64 n = n < 2 ^ 64
 
 abbrev pub IsMsgSerial : ℕ → Type 0
-IsMsgSerial n = n ≤ max_serial
+IsMsgSerial n = n ≤ MAX_MESSAGE_SERIAL
 
 abbrev pub IsCount : ℕ → Type 0
 IsCount n = (0 < n) × Fits32 n
@@ -59,3 +61,5 @@ IsSendable (frames.Presence head items) = IsHead head × (0 < length items) × A
 IsSendable (frames.Message head items) = IsHead head × (0 < length items) × AreMessages head items
 IsSendable (frames.Sync channel at items) = IsName channel × IfSome at IsCursor × ArePresence items
 IsSendable frames.Auth = ⊤
+IsSendable (frames.Object head ops) = IsHead head × (0 < length ops) × All IsSendableOp ops
+IsSendable (frames.ObjectSync channel at states) = IsName channel × IfSome at IsCursor × All IsSendableState states

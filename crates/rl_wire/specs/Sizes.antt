@@ -1,4 +1,4 @@
--- How many bytes of texts a frame holds, and how many items.
+-- How many bytes of texts a frame holds, how many items, entries and cells.
 use Rattle.std.specs.Prelude.{ℕ, ◌+◌, length, Option, Some, None, sum_by}
 use Rattle.rl_types.specs.declared.frames.Cursor.{Cursor}
 use Rattle.rl_types.specs.declared.frames.Frame.{Frame}
@@ -9,6 +9,7 @@ use Rattle.rl_types.specs.declared.messages.Given.TheVariants as given
 use Rattle.rl_types.specs.declared.messages.Item.{Item}
 use Rattle.rl_types.specs.declared.presence.PresenceItem.{PresenceItem}
 use Rattle.rl_types.specs.Weight.{option_len}
+use Rattle.rl_wireobj.specs.Sizes.{op_bytes, op_entries, state_bytes, state_cells}
 
 abbrev pub message_bytes : Item → ℕ
 message_bytes m = option_len m.id + option_len m.name + option_len m.payload + option_len m.encoding + option_len m.client
@@ -48,6 +49,8 @@ text_bytes (frames.Presence head items) = head_bytes head + sum_by presence_byte
 text_bytes (frames.Message head items) = head_bytes head + sum_by message_bytes items
 text_bytes (frames.Sync channel at items) = length channel + cursor_bytes at + sum_by presence_bytes items
 text_bytes frames.Auth = 0
+text_bytes (frames.Object head ops) = head_bytes head + sum_by op_bytes ops
+text_bytes (frames.ObjectSync channel at states) = length channel + cursor_bytes at + sum_by state_bytes states
 
 abbrev pub item_count : Frame → ℕ
 item_count frames.Heartbeat = 0
@@ -68,3 +71,15 @@ item_count (frames.Presence head items) = length items
 item_count (frames.Message head items) = length items
 item_count (frames.Sync channel at items) = length items
 item_count frames.Auth = 0
+item_count (frames.Object head ops) = length ops
+item_count (frames.ObjectSync channel at states) = length states
+
+-- the entries with which maps are made
+abbrev pub entry_count : Frame → ℕ
+entry_count (frames.Object head ops) = sum_by op_entries ops
+entry_count _ = 0
+
+-- the sites and cells of objects
+abbrev pub cell_count : Frame → ℕ
+cell_count (frames.ObjectSync channel at states) = sum_by state_cells states
+cell_count _ = 0

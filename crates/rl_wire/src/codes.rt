@@ -3,6 +3,7 @@ ghost use Rattle.serde_json.specs.View.{view, members_view};
 ghost use Rattle.rl_wire.specs.Texts.{code_name, error_value, with_error};
 
 use rl_ids::NoMemory;
+use rl_numbers::codes;
 use rl_jsonfields::{Field, Object, set_number, set_text, set_value};
 use serde_json::{Map, Value};
 use std::alloc::Global;
@@ -13,29 +14,29 @@ fn name_of_code(code: u32) -> &'static str
     ensures { result.now ≡ code_name code }
 {
     match code {
-        101 => "NotRetained",
-        102 => "KeyUnknown",
-        103 => "ChannelLimit",
-        104 => "TooLong",
-        105 => "MemberLimit",
-        106 => "UnknownObject",
-        107 => "DuplicateObject",
-        108 => "StaleId",
-        109 => "Range",
-        110 => "WrongKind",
-        111 => "Tombstoned",
-        112 => "PoolLimit",
-        113 => "BadIds",
-        114 => "NoClientId",
-        115 => "BadAction",
-        116 => "LogFull",
-        120 => "BadFrame",
-        121 => "SerialGap",
-        122 => "SerialOld",
-        123 => "Superseded",
-        124 => "Lagged",
-        125 => "ConnectionLimit",
-        126 => "Idle",
+        codes::NOT_RETAINED => "NotRetained",
+        codes::KEY_UNKNOWN => "KeyUnknown",
+        codes::CHANNEL_LIMIT => "ChannelLimit",
+        codes::TOO_LONG => "TooLong",
+        codes::MEMBER_LIMIT => "MemberLimit",
+        codes::UNKNOWN_OBJECT => "UnknownObject",
+        codes::DUPLICATE_OBJECT => "DuplicateObject",
+        codes::STALE_ID => "StaleId",
+        codes::RANGE => "Range",
+        codes::WRONG_KIND => "WrongKind",
+        codes::TOMBSTONED => "Tombstoned",
+        codes::POOL_LIMIT => "PoolLimit",
+        codes::BAD_IDS => "BadIds",
+        codes::NO_CLIENT_ID => "NoClientId",
+        codes::BAD_ACTION => "BadAction",
+        codes::LOG_FULL => "LogFull",
+        codes::BAD_FRAME => "BadFrame",
+        codes::SERIAL_GAP => "SerialGap",
+        codes::SERIAL_OLD => "SerialOld",
+        codes::SUPERSEDED => "Superseded",
+        codes::LAGGED => "Lagged",
+        codes::CONNECTION_LIMIT => "ConnectionLimit",
+        codes::IDLE => "Idle",
         _ => "Unknown",
     }
 }
@@ -48,7 +49,7 @@ pub fn error_value(alloc: Global, code: u32) -> Result<Value, NoMemory>
     let mut object = Map::new(alloc);
     set_number(alloc, &mut object, Field::Code, u64::from(code))?;
     set_text(alloc, &mut object, Field::Message, name_of_code(code))?;
-    set_number(alloc, &mut object, Field::StatusCode, 400)?;
+    set_number(alloc, &mut object, Field::StatusCode, u64::from(codes::STATUS_CODE))?;
     Ok(Value::Object(object))
 }
 

@@ -10,24 +10,23 @@ use rl_jsonfields::{
     Field, bad, find, missing, optional_any_text, optional_number, optional_object,
     required_number, required_text,
 };
+use rl_numbers::limits::{MAX_CHANNEL_NAME, MAX_MESSAGE_SERIAL};
 use rl_types::{Given, Head, WireFault};
 use serde_json::Value;
 use std::alloc::Global;
-
-const MAX_SERIAL: u64 = 9_007_199_254_740_991;
 
 #[tactic(auto, unfolding(crate::specs::Frames::channel))]
 pub fn channel_of(alloc: Global, object: &Value) -> Result<Text, WireFault>
     ensures { Gives result (channel (view object.now)) }
 {
-    required_text(alloc, object, Field::Channel, 1, 256)
+    required_text(alloc, object, Field::Channel, 1, MAX_CHANNEL_NAME)
 }
 
 #[tactic(auto, unfolding(crate::specs::Frames::msg_serial))]
 pub fn msg_serial_of(object: &Value) -> Result<u64, WireFault>
     ensures { Gives result (msg_serial (view object.now)) }
 {
-    required_number(object, Field::MsgSerial, 0, MAX_SERIAL)
+    required_number(object, Field::MsgSerial, 0, MAX_MESSAGE_SERIAL)
 }
 
 #[tactic(auto, unfolding(crate::specs::Frames::count))]
@@ -123,7 +122,7 @@ pub fn head_of(alloc: Global, object: &Value) -> Result<Head, WireFault>
     ensures { Gives result (head (view object.now)) }
 {
     let channel = channel_of(alloc, object)?;
-    let msg = optional_number(object, Field::MsgSerial, 0, MAX_SERIAL)?;
+    let msg = optional_number(object, Field::MsgSerial, 0, MAX_MESSAGE_SERIAL)?;
     let serial = optional_serial(object)?;
     let conn = optional_any_text(alloc, object, Field::ConnectionId)?;
     let id = optional_any_text(alloc, object, Field::Id)?;

@@ -2,10 +2,12 @@
 ghost use Rattle.std.specs.Prelude.{◌≡◌, ◌≢◌, ◌≤◌, ◌+◌, ◌*◌, ℕ, List as Seq, length, Ok, Err, Some, IsUtf8};
 ghost use Rattle.rl_types.specs.declared.frames.Frame.{Frame as SomeFrame};
 ghost use Rattle.rl_types.specs.declared.frames.WireFault.TheVariants.{NoMemory};
-ghost use Rattle.rl_wire.specs.Frames.{frame_at, max_length};
+ghost use Rattle.rl_wire.specs.Frames.{frame_at};
 ghost use Rattle.rl_wire.specs.Sendable.{IsSendable};
-ghost use Rattle.rl_wire.specs.Sizes.{item_count, text_bytes};
+ghost use Rattle.rl_wire.specs.Sizes.{cell_count, entry_count, item_count, text_bytes};
 ghost use Rattle.rl_wire.specs.Texts.{frame_text};
+
+use rl_numbers::limits::MAX_FRAME_SIZE;
 
 /// No bytes are read as want of memory: that answer comes from the allocator alone.
 #[tactic(auto, using(crate::proofs::Named::frame_named))]
@@ -22,12 +24,12 @@ pub fn what_is_read_is_sendable()
 /// The text of a frame that can be sent is read as the same frame, where it is UTF-8 and not too long.
 #[tactic(auto, using(crate::proofs::Law::text_again))]
 pub fn sendable_frames_read_back()
-    ensures { (f : SomeFrame) → IsSendable f → IsUtf8 (frame_text f) → length (frame_text f) ≤ max_length → frame_at (frame_text f) ≡ Ok (Some f) }
+    ensures { (f : SomeFrame) → IsSendable f → IsUtf8 (frame_text f) → length (frame_text f) ≤ MAX_FRAME_SIZE → frame_at (frame_text f) ≡ Ok (Some f) }
 {}
 
-/// The text of a frame that can be sent has at most six bytes for each byte of its texts, 1,000 for each item
-/// and 2,000 more.
+/// The text of a frame that can be sent has at most six bytes for each byte of its texts, 1,000 for each item, 50
+/// for each entry of a map that is made, 400 for each site and cell of an object, and 2,000 more.
 #[tactic(auto, using(crate::proofs::TextLengths::frame_length))]
 pub fn texts_are_short()
-    ensures { (f : SomeFrame) → IsSendable f → length (frame_text f) ≤ 6 * text_bytes f + 1000 * item_count f + 2000 }
+    ensures { (f : SomeFrame) → IsSendable f → length (frame_text f) ≤ 6 * text_bytes f + 1000 * item_count f + 50 * entry_count f + 400 * cell_count f + 2000 }
 {}

@@ -8,10 +8,11 @@
 mod actions;
 mod codes;
 mod cursors;
+mod details;
 mod heads;
 pub mod laws;
 mod lists;
-mod objects;
+mod members;
 mod reading;
 mod writing;
 

@@ -4,7 +4,7 @@ ghost use Rattle.serde_json.specs.Data.{no_items};
 ghost use Rattle.serde_json.specs.View.{view, items_view};
 ghost use Rattle.rl_jsonfields.specs.Fields.{Gives};
 ghost use Rattle.rl_wireitems.specs.Items.{sync_head};
-ghost use Rattle.rl_wire.specs.Frames.{presence, message, sync};
+ghost use Rattle.rl_wire.specs.Frames.{presence, message, sync, operations, objects};
 
 use crate::cursors::optional_cursor;
 use crate::heads::{channel_of, head_of};
@@ -12,6 +12,7 @@ use rl_ids::{NoMemory, Text};
 use rl_jsonfields::{Field, optional_items, required_items};
 use rl_types::{Frame, Head, WireFault};
 use rl_wireitems::{read_message_items, read_presence_items};
+use rl_wireobj::read_items;
 use serde_json::Value;
 use std::alloc::Global;
 
@@ -59,6 +60,31 @@ pub fn sync_of(alloc: Global, object: &mut Value) -> Result<Frame, WireFault>
     let head = head_without_fields(alloc, &channel)?;
     let items = read_presence_items(alloc, &head, or_none(alloc, values))?;
     Ok(Frame::Sync { channel, at, items })
+}
+
+#[tactic(auto, unfolding(crate::specs::Frames::operations))]
+pub fn operations_of(alloc: Global, object: &mut Value) -> Result<Frame, WireFault>
+    ensures { Gives result (operations (view object.old)) }
+{
+    let head = head_of(alloc, object)?;
+    let values = required_items(object, Field::State)?;
+    let ops = read_items(alloc, values.as_slice())?;
+    Ok(Frame::Object { head, ops })
+}
+
+#[tactic(auto, unfolding(crate::specs::Frames::objects))]
+pub fn objects_of(alloc: Global, object: &mut Value) -> Result<Frame, WireFault>
+    ensures { Gives result (objects (view object.old)) }
+{
+    let channel = channel_of(alloc, object)?;
+    let at = optional_cursor(alloc, object)?;
+    let values = or_none(alloc, optional_items(object, Field::State)?);
+    let states = read_items(alloc, values.as_slice())?;
+    Ok(Frame::ObjectSync {
+        channel,
+        at,
+        states,
+    })
 }
 
 // An absent list is empty.

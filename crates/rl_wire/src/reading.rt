@@ -2,23 +2,24 @@ ghost use Rattle.std.specs.Prelude.{◌≡◌, Some};
 ghost use Rattle.serde_json.specs.Read.{read};
 ghost use Rattle.serde_json.specs.View.{view};
 ghost use Rattle.rl_jsonfields.specs.Fields.{Gives};
-ghost use Rattle.rl_wire.specs.Frames.{ack, nack, details, connection_details, connected, disconnected, error, attach, attached, detach, detached, object_frame, json_frame, frame_at};
+ghost use Rattle.rl_wire.specs.Frames.{ack, nack, details, connection_details, connected, disconnected, error, attach, attached, detach, detached, frame_in, json_frame, frame_at};
 
 use crate::actions::{Action, action_of};
 use crate::heads::{
     channel_of, count_of, error_code_of, msg_serial_of, optional_given, required_serial,
 };
-use crate::lists::{message_of, presence_of, sync_of};
-use rl_ids::Text;
+use crate::details::ConnectionDetails;
+use crate::lists::{message_of, objects_of, operations_of, presence_of, sync_of};
 use rl_jsonfields::{
     Field, optional_number, optional_text, required_any_text, required_object, required_whole,
+};
+use rl_numbers::limits::{
+    CONNECTION_STATE_TTL, MAX_CHANNEL_NAME, MAX_FRAME_SIZE, MAX_IDLE_INTERVAL, MAX_MESSAGE_SIZE,
 };
 use rl_types::{Frame, WireFault};
 use serde_json::Value;
 use std::alloc::Global;
 use std::str;
-
-const MAX_LENGTH: usize = 4_194_304;
 
 #[tactic(auto, unfolding(crate::specs::Frames::ack))]
 fn ack_of(object: &Value) -> Result<Frame, WireFault>
@@ -44,23 +45,23 @@ fn nack_of(object: &Value) -> Result<Frame, WireFault>
 }
 
 #[tactic(auto, unfolding(crate::specs::Frames::details))]
-fn details_of(alloc: Global, object: &Value) -> Result<(Text, u64, u64, u64), WireFault>
+fn details_of(alloc: Global, object: &Value) -> Result<ConnectionDetails, WireFault>
     ensures { Gives result (details (view object.now)) }
 {
     let key = required_any_text(alloc, object, Field::ConnectionKey)?;
     let ttl = optional_number(object, Field::ConnectionStateTtl, 0, u64::MAX)?;
     let idle = optional_number(object, Field::MaxIdleInterval, 0, u64::MAX)?;
     let size = optional_number(object, Field::MaxMessageSize, 0, u64::MAX)?;
-    Ok((
+    Ok(ConnectionDetails {
         key,
-        ttl.unwrap_or(120_000),
-        idle.unwrap_or(15_000),
-        size.unwrap_or(65_536),
-    ))
+        ttl: ttl.unwrap_or(CONNECTION_STATE_TTL),
+        idle: idle.unwrap_or(MAX_IDLE_INTERVAL),
+        size: size.unwrap_or(MAX_MESSAGE_SIZE),
+    })
 }
 
 #[tactic(auto, unfolding(crate::specs::Frames::connection_details))]
-fn connection_details_of(alloc: Global, object: &Value) -> Result<(Text, u64, u64, u64), WireFault>
+fn connection_details_of(alloc: Global, object: &Value) -> Result<ConnectionDetails, WireFault>
     ensures { Gives result (connection_details (view object.now)) }
 {
     let found = required_object(object, Field::ConnectionDetails)?;
@@ -72,14 +73,14 @@ fn connected_of(alloc: Global, object: &Value) -> Result<Frame, WireFault>
     ensures { Gives result (connected (view object.now)) }
 {
     let conn = required_any_text(alloc, object, Field::ConnectionId)?;
-    let (key, ttl, idle, size) = connection_details_of(alloc, object)?;
+    let details = connection_details_of(alloc, object)?;
     let code = error_code_of(object)?;
     Ok(Frame::Connected {
         conn,
-        key,
-        ttl,
-        idle,
-        size,
+        key: details.key,
+        ttl: details.ttl,
+        idle: details.idle,
+        size: details.size,
         code,
     })
 }
@@ -96,7 +97,7 @@ fn disconnected_of(object: &Value) -> Result<Frame, WireFault>
 fn error_of(alloc: Global, object: &Value) -> Result<Frame, WireFault>
     ensures { Gives result (error (view object.now)) }
 {
-    let channel = optional_text(alloc, object, Field::Channel, 1, 256)?;
+    let channel = optional_text(alloc, object, Field::Channel, 1, MAX_CHANNEL_NAME)?;
     let code = error_code_of(object)?;
     Ok(Frame::Error {
         channel,
@@ -146,9 +147,9 @@ fn detached_of(alloc: Global, object: &Value) -> Result<Frame, WireFault>
     Ok(Frame::Detached { channel, code })
 }
 
-#[tactic(auto, unfolding(crate::specs::Frames::object_frame))]
-fn object_frame_of(alloc: Global, object: &mut Value) -> Result<Option<Frame>, WireFault>
-    ensures { Gives result (object_frame (view object.old)) }
+#[tactic(auto, unfolding(crate::specs::Frames::frame_in))]
+fn frame_in(alloc: Global, object: &mut Value) -> Result<Option<Frame>, WireFault>
+    ensures { Gives result (frame_in (view object.old)) }
 {
     let number = required_whole(object, Field::Action)?;
     match action_of(number) {
@@ -171,6 +172,8 @@ fn object_frame_of(alloc: Global, object: &mut Value) -> Result<Option<Frame>, W
         Some(Action::Message) => Ok(Some(message_of(alloc, object)?)),
         Some(Action::Sync) => Ok(Some(sync_of(alloc, object)?)),
         Some(Action::Auth) => Ok(Some(Frame::Auth)),
+        Some(Action::Object) => Ok(Some(operations_of(alloc, object)?)),
+        Some(Action::ObjectSync) => Ok(Some(objects_of(alloc, object)?)),
     }
 }
 
@@ -178,7 +181,7 @@ fn value_frame(alloc: Global, value: &mut Value) -> Result<Option<Frame>, WireFa
     ensures { Gives result (json_frame (Some (view value.old))) }
 {
     if value.is_object() {
-        object_frame_of(alloc, value)
+        frame_in(alloc, value)
     } else {
         Err(WireFault::NotObject)
     }
@@ -200,7 +203,7 @@ fn text_frame(alloc: Global, text: &str) -> Result<Option<Frame>, WireFault>
 /// The frame that bytes are, `None` where they are an unknown action, or the first fault. An unknown action is
 /// a whole number that isn't in the table of actions (TR2).
 ///
-/// The checks come in this order: more than 4,194,304 bytes are `TooLong`, bytes that aren't UTF-8 `NotText`, a
+/// The checks come in this order: more than [`MAX_FRAME_SIZE`] bytes are `TooLong`, bytes that aren't UTF-8 `NotText`, a
 /// text that isn't JSON `NotJson`, a value that is no object `NotObject`; then come `action` and the fields of
 /// the action, each item of a list in order. A required field that is absent is `Missing`, and a field of
 /// another shape `BadField`, with its name. A field whose value is null counts as absent, and unknown fields
@@ -209,7 +212,7 @@ fn text_frame(alloc: Global, text: &str) -> Result<Option<Frame>, WireFault>
 pub fn read_frame(alloc: Global, bytes: &[u8]) -> Result<Option<Frame>, WireFault>
     ensures { Gives result (frame_at bytes.now) }
 {
-    if bytes.len() > MAX_LENGTH {
+    if bytes.len() > MAX_FRAME_SIZE {
         return Err(WireFault::TooLong);
     }
     match str::from_utf8(bytes) {

@@ -5,6 +5,7 @@ use Rattle.std.specs.Fmt.{decimal}
 use Rattle.serde_json.specs.Data.{Data, string, object, Items, no_items, item, Members, no_members}
 use Rattle.serde_json.specs.Find.{as_u64, as_number}
 use Rattle.serde_json.specs.View.{items_of}
+use Rattle.rl_numbers.specs.declared.actions.TheConstants.{ABSENT, PRESENT, ENTER, LEAVE, UPDATE}
 use Rattle.rl_types.specs.declared.frames.Head.{Head}
 use Rattle.rl_types.specs.declared.messages.Item.{Item}
 use Rattle.rl_types.specs.declared.presence.PresenceAction.{PresenceAction}
@@ -45,11 +46,11 @@ message_item h i d = do
 -- the numbers of the actions
 abbrev pub action_at : ℕ → Option PresenceAction
 action_at n =
-    if n == 0 then Some actions.Absent
-    else if n == 1 then Some actions.Present
-    else if n == 2 then Some actions.Enter
-    else if n == 3 then Some actions.Leave
-    else if n == 4 then Some actions.Update
+    if n == ABSENT then Some actions.Absent
+    else if n == PRESENT then Some actions.Present
+    else if n == ENTER then Some actions.Enter
+    else if n == LEAVE then Some actions.Leave
+    else if n == UPDATE then Some actions.Update
     else None
 
 abbrev pub an_action : Data → Option PresenceAction
@@ -91,11 +92,11 @@ message_value m =
     object (with_text fields.ClientId m.client (with_text fields.Encoding m.encoding (with_text fields.Data m.payload (with_text fields.Name m.name (with_text fields.Id m.id no_members)))))
 
 abbrev pub number_of : PresenceAction → ℕ
-number_of actions.Absent = 0
-number_of actions.Present = 1
-number_of actions.Enter = 2
-number_of actions.Leave = 3
-number_of actions.Update = 4
+number_of actions.Absent = ABSENT
+number_of actions.Present = PRESENT
+number_of actions.Enter = ENTER
+number_of actions.Leave = LEAVE
+number_of actions.Update = UPDATE
 
 -- what is told of a member, with what is written of its four texts and numbers that have a default
 abbrev pub presence_with : PresenceItem → Option (List ℕ) → Option (List ℕ) → Option (List ℕ) → Option ℕ → Data

@@ -6,6 +6,7 @@ ghost use Rattle.rl_jsonfields.specs.declared.names.Field.TheVariants as fields;
 ghost use Rattle.rl_wireitems.specs.Items.{action_at, an_action, number_of};
 
 use rl_jsonfields::{Field, bad, find, missing};
+use rl_numbers::actions::{ABSENT, ENTER, LEAVE, PRESENT, UPDATE};
 use rl_types::{PresenceAction, WireFault};
 use serde_json::Value;
 
@@ -13,11 +14,11 @@ pub fn action_number(action: PresenceAction) -> u64
     ensures { result ≡ number_of action }
 {
     match action {
-        PresenceAction::Absent => 0,
-        PresenceAction::Present => 1,
-        PresenceAction::Enter => 2,
-        PresenceAction::Leave => 3,
-        PresenceAction::Update => 4,
+        PresenceAction::Absent => ABSENT,
+        PresenceAction::Present => PRESENT,
+        PresenceAction::Enter => ENTER,
+        PresenceAction::Leave => LEAVE,
+        PresenceAction::Update => UPDATE,
     }
 }
 
@@ -25,11 +26,11 @@ fn action_from(number: u64) -> Option<PresenceAction>
     ensures { result ≡ action_at number }
 {
     match number {
-        0 => Some(PresenceAction::Absent),
-        1 => Some(PresenceAction::Present),
-        2 => Some(PresenceAction::Enter),
-        3 => Some(PresenceAction::Leave),
-        4 => Some(PresenceAction::Update),
+        ABSENT => Some(PresenceAction::Absent),
+        PRESENT => Some(PresenceAction::Present),
+        ENTER => Some(PresenceAction::Enter),
+        LEAVE => Some(PresenceAction::Leave),
+        UPDATE => Some(PresenceAction::Update),
         _ => None,
     }
 }
