@@ -32,7 +32,12 @@ fn lines_are_copied(rt: HostRuntime) -> Result<(), NoMemory> {
     let alloc = rt.alloc();
     assert!(rt; is_copied(alloc, &Line::Recover(word(alloc)?, word(alloc)?))?);
     assert!(rt; is_copied(alloc, &Line::Poll(word(alloc)?, Some(2), word(alloc)?))?);
-    assert!(rt; is_copied(alloc, &Line::FeedId(word(alloc)?, word(alloc)?, word(alloc)?))?);
+    assert!(rt;
+        is_copied(
+            alloc,
+            &Line::FeedId(word(alloc)?, word(alloc)?, word(alloc)?)
+        )?
+    );
     assert!(rt; is_copied(alloc, &Line::Tick(3))?);
     Ok(())
 }

@@ -6,10 +6,12 @@ use rl_wire::read_frame;
 use std::alloc::Global;
 
 // An operation of each kind.
-const OBJECT: &str = "{\"action\":19,\"channel\":\"room\",\"state\":[{\"operation\":{\"action\":0,\"objectId\":\"map:a@0\",\"map\":{\"entries\":{\"k\":{\"data\":{\"string\":\"x\"}}}}}},{\"operation\":{\"action\":1,\"objectId\":\"root\",\"mapOp\":{\"key\":\"k\",\"data\":{\"bytes\":\"AP8=\"}}}},{\"operation\":{\"action\":2,\"objectId\":\"root\",\"mapOp\":{\"key\":\"k\"}}},{\"operation\":{\"action\":3,\"objectId\":\"counter:a@0\",\"counter\":{}}},{\"operation\":{\"action\":4,\"objectId\":\"counter:a@0\",\"counterOp\":{\"amount\":-1}}},{\"operation\":{\"action\":5,\"objectId\":\"counter:a@0\"}}]}";
+const OBJECT: &str =
+    "{\"action\":19,\"channel\":\"room\",\"state\":[{\"operation\":{\"action\":0,\"objectId\":\"map:a@0\",\"map\":{\"entries\":{\"k\":{\"data\":{\"string\":\"x\"}}}}}},{\"operation\":{\"action\":1,\"objectId\":\"root\",\"mapOp\":{\"key\":\"k\",\"data\":{\"bytes\":\"AP8=\"}}}},{\"operation\":{\"action\":2,\"objectId\":\"root\",\"mapOp\":{\"key\":\"k\"}}},{\"operation\":{\"action\":3,\"objectId\":\"counter:a@0\",\"counter\":{}}},{\"operation\":{\"action\":4,\"objectId\":\"counter:a@0\",\"counterOp\":{\"amount\":-1}}},{\"operation\":{\"action\":5,\"objectId\":\"counter:a@0\"}}]}";
 
 // An object of each kind.
-const OBJECT_SYNC: &str = "{\"action\":20,\"channel\":\"room\",\"channelSerial\":\"1:1\",\"state\":[{\"object\":{\"objectId\":\"counter:a@0\",\"siteTimeserials\":{\"s1\":\"00000000000000000001-0000@s1\"},\"counter\":{\"count\":5}}},{\"object\":{\"objectId\":\"root\",\"siteTimeserials\":{},\"map\":{\"entries\":{\"k\":{\"data\":{\"number\":1},\"timeserial\":\"00000000000000000002-0000@s1\"},\"l\":{\"tombstone\":true,\"timeserial\":\"00000000000000000003-0000@s1\"}}}}}]}";
+const OBJECT_SYNC: &str =
+    "{\"action\":20,\"channel\":\"room\",\"channelSerial\":\"1:1\",\"state\":[{\"object\":{\"objectId\":\"counter:a@0\",\"siteTimeserials\":{\"s1\":\"00000000000000000001-0000@s1\"},\"counter\":{\"count\":5}}},{\"object\":{\"objectId\":\"root\",\"siteTimeserials\":{},\"map\":{\"entries\":{\"k\":{\"data\":{\"number\":1},\"timeserial\":\"00000000000000000002-0000@s1\"},\"l\":{\"tombstone\":true,\"timeserial\":\"00000000000000000003-0000@s1\"}}}}}]}";
 
 // Whether these bytes are a frame that is copied.
 fn frame_is_copied(alloc: Global, text: &str) -> Result<bool, NoMemory> {
