@@ -19,6 +19,6 @@ pub use reading::{
 };
 pub use taking::{optional_items, required_items, take_text};
 pub use writing::{
-    Object, set_bool, set_number, set_number_unless, set_signed, set_some_number, set_some_text, set_text,
-    set_text_unless, set_value,
+    Object, set_bool, set_number, set_number_unless, set_signed, set_some_number, set_some_text,
+    set_text, set_text_unless, set_value,
 };

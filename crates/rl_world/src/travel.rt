@@ -1,7 +1,7 @@
 //! What travels between the client and the service: frames, as their JSON bytes.
 ghost use Rattle.std.specs.Prelude.{◌≡◌, ◌≤◌, ◌<◌, ◌^◌, length, true, Some, option_and_then, IfOk, IfSome};
 ghost use Rattle.rl_ids.specs.Forms.{IsSerial};
-ghost use Rattle.rl_wire.specs.Frames.{max_length};
+ghost use Rattle.rl_numbers.specs.declared.limits.TheConstants.{MAX_FRAME_SIZE};
 ghost use Rattle.rl_wire.specs.Texts.{frame_text};
 ghost use Rattle.rl_wire.specs.Sendable.{IsSendable};
 ghost use Rattle.rl_model.specs.Limits.{IsChannelName};
@@ -19,7 +19,7 @@ use std::alloc::Global;
 
 // What arrives of a frame that is sent: the frame that its bytes are, if they are one.
 fn carried(alloc: Global, frame: &Frame) -> Result<Option<Frame>, NoMemory>
-    ensures { IfOk result (λ arrived. IsSendable frame.now → length (frame_text frame.now) ≤ max_length → arrived ≡ Some frame.now) }
+    ensures { IfOk result (λ arrived. IsSendable frame.now → length (frame_text frame.now) ≤ MAX_FRAME_SIZE → arrived ≡ Some frame.now) }
 {
     let bytes = write_frame(alloc, frame)?;
     match read_frame(alloc, bytes.as_slice()) {
