@@ -34,6 +34,7 @@ pub fn read_members<T: FromMember>(alloc: Global, members: &Object) -> Result<Li
 /// What is written as a member: a key with a value.
 pub trait ToMember {
     ghost key_of: { Self → Seq ℕ };
+
     ghost json_of: { Self → Data };
 
     fn key(&self) -> &str

@@ -12,9 +12,7 @@ ghost use Rattle.rl_wireobj.specs.Operations.{semantics, entries_in, entry_at, m
 
 use crate::actions::{Action, required_action};
 use crate::members::{FromMember, ToMember, read_members, write_members};
-use crate::values::{
-    optional_serial, required_id, required_value, set_id, set_serial, value_json,
-};
+use crate::values::{optional_serial, required_id, required_value, set_id, set_serial, value_json};
 use rl_ids::{List, MapValue, NoMemory, ObjectId, OpSerial, Text};
 use rl_jsonfields::{
     Field, Object, check_object, optional_members, optional_number, optional_signed,
@@ -76,11 +74,7 @@ impl FromMember for (Text, MapValue) {
 
     ghost read_at = { entry_at };
 
-    fn from_member(
-        alloc: Global,
-        key: &str,
-        value: &Value,
-    ) -> Result<(Text, MapValue), WireFault> {
+    fn from_member(alloc: Global, key: &str, value: &Value) -> Result<(Text, MapValue), WireFault> {
         entry_in(alloc, key, value)
     }
 }
@@ -134,12 +128,7 @@ fn counter_inc_of(id: ObjectId, object: &Value) -> Result<Op, WireFault>
     Ok(Op::CounterInc { id, amount })
 }
 
-fn by_action(
-    alloc: Global,
-    action: Action,
-    id: ObjectId,
-    object: &Value,
-) -> Result<Op, WireFault>
+fn by_action(alloc: Global, action: Action, id: ObjectId, object: &Value) -> Result<Op, WireFault>
     ensures { Gives result (by_action action id (view object.now)) }
 {
     match action {
@@ -235,7 +224,12 @@ fn map_create_object(
     ensures { IfOk result (λ m. members_view m.entries ≡ operation_members (ops.MapCreate id.now entries.now)) }
 {
     let mut object = head_object(alloc, MAP_CREATE, id)?;
-    set_value(alloc, &mut object, Field::Map, entries_json(alloc, entries)?)?;
+    set_value(
+        alloc,
+        &mut object,
+        Field::Map,
+        entries_json(alloc, entries)?,
+    )?;
     Ok(object)
 }
 
@@ -337,7 +331,12 @@ fn op_json(alloc: Global, op: &ObjectOp) -> Result<Value, NoMemory>
 {
     let operation = operation_object(alloc, &op.op)?;
     let mut object = Map::new(alloc);
-    set_value(alloc, &mut object, Field::Operation, Value::Object(operation))?;
+    set_value(
+        alloc,
+        &mut object,
+        Field::Operation,
+        Value::Object(operation),
+    )?;
     set_some_serial(alloc, &mut object, &op.serial)?;
     Ok(Value::Object(object))
 }

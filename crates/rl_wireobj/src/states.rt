@@ -9,7 +9,9 @@ ghost use Rattle.rl_wireobj.specs.States.{site_with, site_at, sites, none_at, he
 
 use crate::members::{FromMember, ToMember, read_members, write_members};
 use crate::operations::entries_in;
-use crate::values::{required_id, required_serial, required_value, serial_in, set_id, set_serial, value_json};
+use crate::values::{
+    required_id, required_serial, required_value, serial_in, set_id, set_serial, value_json,
+};
 use rl_ids::{List, MapValue, NoMemory, OpSerial, SiteCode, Text, read_site, write_op_serial};
 use rl_jsonfields::{
     Field, Object, bad, check_object, find, flag, missing, optional_object, required_members,
@@ -110,11 +112,7 @@ impl FromMember for (Text, MapCell) {
 
     ghost read_at = { cell_at };
 
-    fn from_member(
-        alloc: Global,
-        key: &str,
-        value: &Value,
-    ) -> Result<(Text, MapCell), WireFault> {
+    fn from_member(alloc: Global, key: &str, value: &Value) -> Result<(Text, MapCell), WireFault> {
         cell_in(alloc, key, value)
     }
 }
@@ -140,7 +138,11 @@ fn map_of(alloc: Global, object: Option<&Value>) -> Result<ObjectBody, WireFault
 }
 
 // Where a counter is there, no map is read.
-fn body_from(alloc: Global, counter: Option<&Value>, object: &Value) -> Result<ObjectBody, WireFault>
+fn body_from(
+    alloc: Global,
+    counter: Option<&Value>,
+    object: &Value,
+) -> Result<ObjectBody, WireFault>
     ensures { Gives result (body_from (option_map (λ v. view v.now) counter.entry) (view object.now)) }
 {
     match counter {
