@@ -1,5 +1,6 @@
 #!/usr/bin/env bash
-# Times reading and writing a MESSAGE frame with 200 and with 60,000 characters of data, and prints for each kind
+# Times reading and writing a MESSAGE frame with 200 and with 60,000 characters of data, and an OBJECT frame with 2 and
+# with 600 operations, and prints for each kind
 # of data how many frames and bytes a second there are, and how much longer a byte takes in the long frame than in
 # the short one. Nothing depends on the figures.
 set -eu
@@ -23,9 +24,9 @@ def timed(way, kind, count, rounds):
 
 print("way    data      characters  frames/s     bytes/s  ns/byte")
 for way in ("read", "write"):
-    for kind in ("letters", "quotes", "controls", "accents"):
+    for kind in ("letters", "quotes", "controls", "accents", "operations"):
         each = []
-        for count, rounds in ((200, 50000), (60000, 250)):
+        for count, rounds in ((2, 50000), (600, 250)) if kind == "operations" else ((200, 50000), (60000, 250)):
             rounds = max(1, int(rounds * factor))
             took, read = timed(way, kind, count, rounds)
             each.append(took / read)

@@ -1,13 +1,14 @@
-//! Reads or writes one MESSAGE frame again and again, so that a script can take the time.
+//! Reads or writes one frame again and again, so that a script can take the time.
 //!
-//! Its words: `read` or `write`; what the data is made of, `letters`, `quotes`, `controls` or `accents`; how many
-//! times that character stands in the data; how many rounds. It prints how many bytes of frames were read or
+//! Its words: `read` or `write`; what the frame is, a MESSAGE whose data is made of `letters`, `quotes`, `controls` or
+//! `accents`, or an OBJECT of `operations`; how many times that character stands in the data, or how many operations
+//! there are; how many rounds. It prints how many bytes of frames were read or
 //! written.
 #![tactic(auto)]
 
-use anyhow::{Result, anyhow};
-use rl_ids::{List, Text};
-use rl_types::{Frame, Head, Item};
+use anyhow::{Context, Result, anyhow};
+use rl_ids::{List, Text, read_object_id};
+use rl_types::{Frame, Head, Item, ObjectOp, Op};
 use rl_wire::{read_frame, write_frame};
 use std::alloc::Global;
 use std::env;
@@ -24,6 +25,17 @@ fn character(kind: &str) -> Result<&'static str> {
     }
 }
 
+fn head(alloc: Global) -> Result<Head> {
+    Ok(Head {
+        channel: Text::from_str(alloc, "room")?,
+        msg: Some(0),
+        serial: None,
+        conn: None,
+        id: None,
+        stamp: None,
+    })
+}
+
 fn message(alloc: Global, kind: &str, count: usize) -> Result<Frame> {
     let payload = Text::from_string(character(kind)?.repeat(alloc, count)?);
     let mut items = List::new(alloc);
@@ -34,15 +46,33 @@ fn message(alloc: Global, kind: &str, count: usize) -> Result<Frame> {
         encoding: None,
         client: None,
     })?;
-    let head = Head {
-        channel: Text::from_str(alloc, "room")?,
-        msg: Some(0),
-        serial: None,
-        conn: None,
-        id: None,
-        stamp: None,
-    };
-    Ok(Frame::Message { head, items })
+    Ok(Frame::Message {
+        head: head(alloc)?,
+        items,
+    })
+}
+
+// As many operations as told, each of which adds to the same counter.
+fn operations(alloc: Global, count: usize) -> Result<Frame> {
+    let id = read_object_id("counter:a@0").context("no object id")?;
+    let mut ops = List::new(alloc);
+    for _ in 0..count {
+        ops.push(ObjectOp {
+            op: Op::CounterInc { id, amount: 1 },
+            serial: None,
+        })?;
+    }
+    Ok(Frame::Object {
+        head: head(alloc)?,
+        ops,
+    })
+}
+
+fn frame(alloc: Global, kind: &str, count: usize) -> Result<Frame> {
+    if kind == "operations" {
+        return operations(alloc, count);
+    }
+    message(alloc, kind, count)
 }
 
 // The bytes of all rounds of writing.
@@ -87,7 +117,7 @@ fn as_told(alloc: Global, words: &[String]) -> Result<u64> {
     let kind = word(words, 1)?;
     let count = word(words, 2)?.parse::<usize>()?;
     let rounds = word(words, 3)?.parse::<u32>()?;
-    let frame = message(alloc, kind, count)?;
+    let frame = frame(alloc, kind, count)?;
     all_rounds(alloc, way, &frame, rounds)
 }
 

@@ -8,7 +8,7 @@ use Rattle.serde_json.specs.Find.{get_member}
 use Rattle.serde_json.proofs.Views.{get_member-put, get_member-put_other}
 use Rattle.rl_jsonfields.specs.declared.names.Field.{Field}
 use Rattle.rl_jsonfields.specs.Names.{spelled}
-use Rattle.rl_jsonfields.specs.Fields.{Reads, ◌>>=◌, IsSigned, min_signed, max_signed, between, whole, signed, truth, some_members, text, text_in, whole_in, present, required, optional, flag}
+use Rattle.rl_jsonfields.specs.Fields.{IsSigned, whole, signed, truth, some_members, text, text_in, whole_in, present, required, optional, flag}
 use Rattle.rl_jsonfields.specs.Texts.{num, integer, with_some, text_unless, number_unless}
 use Rattle.rl_jsonfields.proofs.Apart.{index, same_name, other_name}
 use Rattle.rl_jsonfields.proofs.Shapes.{in_range_within, sized_within, between_within}

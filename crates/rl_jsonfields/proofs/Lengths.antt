@@ -1,7 +1,6 @@
 -- How long the compact text of a value can be: JSON writes each byte of a text with at most six.
 use Rattle.std.proofs.Common.{◌≡◌, refl, ◌≤◌, ◌+◌, ◌*◌, ℕ, suc, pos, negsuc, ℤ, Bool, true, false, cond, bytes_eq, List, [], ◌∷◌, ◌++◌, length, Option, Some, None, Ordering, Less, Equal, Greater, arith, length-append}
-use Rattle.std.specs.Prelude.{nat_lt, sum_by}
-use Rattle.std.proofs.lemmas.List.Sums.{sum_by-cons}
+use Rattle.std.specs.Prelude.{nat_lt}
 use Rattle.std.proofs.lemmas.Fmt.{length-decimal-le}
 use Rattle.std.specs.Cmp.Lexicographic.{slice_cmp}
 use Rattle.std.specs.Ordering.{nat_cmp, match_ordering}
@@ -12,7 +11,7 @@ use Rattle.rl_types.specs.Weight.{option_len}
 use Rattle.rl_jsonfields.specs.declared.names.Field.{Field}
 use Rattle.rl_jsonfields.specs.declared.names.Field.TheVariants as fields
 use Rattle.rl_jsonfields.specs.Names.{spelled}
-use Rattle.rl_jsonfields.specs.Texts.{num, integer, with_text, with_number, text_unless, member_of_each}
+use Rattle.rl_jsonfields.specs.Texts.{num, integer, with_text, with_number, text_unless}
 use Rattle.rl_jsonfields.proofs.Compact.{IsWhole, Plain, PlainItems, PlainMembers}
 
 -- ---- bounds

@@ -10,6 +10,7 @@ pub mod Lists
 pub mod Members
 pub mod Named
 pub mod Ordered
+pub mod Removed
 pub mod Rises
 pub mod Shapes
 pub mod Utf8

@@ -3,7 +3,7 @@ use Rattle.std.proofs.Common.{◌≡◌, ◌<◌, List, [], ◌∷◌, map, leng
 use Rattle.std.proofs.lemmas.List.Elements.{All-cons, All-nil, All-head, All-tail}
 use Rattle.serde_json.specs.Data.{Data, Items, no_items, item}
 use Rattle.serde_json.specs.View.{items_of}
-use Rattle.rl_jsonfields.specs.Fields.{Reads, ◌>>=◌, not_empty, each}
+use Rattle.rl_jsonfields.specs.Fields.{Reads, not_empty, each}
 use Rattle.rl_jsonfields.specs.Order.{Ordered, ItemsOrdered}
 use Rattle.rl_jsonfields.proofs.Compact.{Plain, PlainItems}
 use Rattle.rl_jsonfields.proofs.Shapes.{bind_ok, ok_is}

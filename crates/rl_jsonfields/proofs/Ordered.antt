@@ -1,5 +1,5 @@
 -- The members of each object that was read come in the order of their keys, each once.
-use Rattle.std.proofs.Common.{◌≡◌, ℕ, Ok, List, [], ◌∷◌, Option, Some, None, option_map, Ordering, Less, Equal, Greater, refl, subst}
+use Rattle.std.proofs.Common.{◌≡◌, ℕ, Ok, List, Option, Some, None, option_map, Ordering, Less, Equal, Greater, refl, subst}
 use Rattle.std.specs.Prelude.{option_and_then, unwrap_or, IfSome, ⊤}
 use Rattle.std.specs.Ordering.{match_ordering}
 use Rattle.json.specs.Json as json

@@ -1,11 +1,11 @@
 -- Objects with free keys: what is read rises in its keys, and what rises is read again as it was written.
-use Rattle.std.proofs.Common.{◌≡◌, ℕ, List, [], ◌∷◌, Less, Ok, Err, refl, ap, subst, ◌∙◌, IfOk, All}
+use Rattle.std.proofs.Common.{◌≡◌, ℕ, List, [], ◌∷◌, Less, Ok, refl, ap, subst, ◌∙◌, All}
 use Rattle.std.proofs.lemmas.List.Elements.{All-cons, All-nil, All-head, All-tail}
-use Rattle.serde_json.specs.Data.{Data, Members, no_members, member, put}
-use Rattle.rl_jsonfields.specs.Fields.{Reads, ◌>>=◌, each_member}
+use Rattle.serde_json.specs.Data.{Data, Members, no_members, member}
+use Rattle.rl_jsonfields.specs.Fields.{Reads, each_member}
 use Rattle.rl_jsonfields.specs.Order.{cmp, Before, Ordered, MembersOrdered, IsFirst, Rise}
 use Rattle.rl_jsonfields.specs.Texts.{member_of_each}
-use Rattle.rl_jsonfields.proofs.Shapes.{bind_ok, done, ok_is}
+use Rattle.rl_jsonfields.proofs.Shapes.{bind_ok, ok_is}
 use Rattle.rl_jsonfields.proofs.Ordered.{put_first}
 
 -- ---- what is read

@@ -1,5 +1,5 @@
 -- What holds of a value that was read: steps, shapes, fields.
-use Rattle.std.proofs.Common.{◌≡◌, ◌≤◌, ◌<◌, ℕ, ℤ, pos, negsuc, Bool, true, false, cond, List, length, Option, Some, None, Ok, Err, refl, ap, subst, leb, arith}
+use Rattle.std.proofs.Common.{◌≡◌, ◌≤◌, ℕ, ℤ, pos, negsuc, Bool, true, false, cond, List, length, Option, Some, None, Ok, Err, refl, ap, subst, leb, arith}
 use Rattle.std.specs.Prelude.{int_le, ◌-◌, ◌^◌, IfSome, option_and_then, ◌&&◌}
 use Rattle.std.proofs.lemmas.Bool.{leb-true, le-leb}
 use Rattle.serde_json.specs.Data.{Data}

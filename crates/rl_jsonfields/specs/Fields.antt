@@ -1,7 +1,7 @@
 -- How a field of a JSON object is read. The first fault wins.
 use Rattle.std.specs.Prelude.{◌≡◌, ℕ, ◌+◌, ◌-◌, ◌^◌, ◌<◌, Bool, false, ◌&&◌, ℤ, pos, negsuc, int_le, List, [], ◌∷◌, length, Option, Some, None, option_and_then, unwrap_or, Result, Ok, Err, nat_le, if◌then◌else◌}
 use Rattle.serde_json.specs.Data.{Data, null, boolean, number, string, array, object, Items, no_items, item, Members, no_members, member}
-use Rattle.serde_json.specs.Find.{get, as_bool, as_number, as_str, as_array, as_object, as_u64, as_integer}
+use Rattle.serde_json.specs.Find.{get, get_member, as_bool, as_number, as_str, as_array, as_object, as_u64, as_integer}
 use Rattle.rl_jsonfields.specs.declared.names.Field.{Field}
 use Rattle.rl_jsonfields.specs.Names.{spelled}
 use Rattle.rl_types.specs.declared.frames.WireFault.{WireFault}
@@ -172,3 +172,13 @@ each_member one (member k d ms) = do
   first ← one k d
   others ← each_member one ms
   Ok (first ∷ others)
+
+-- ---- what is taken out
+
+-- members with other names than this one are as before
+abbrev pub LeavesOthers : List ℕ → Members → Members → Type 0
+LeavesOthers name old new = (k : List ℕ) → (k ≡ name → ⊥) → get_member k new ≡ get_member k old
+
+-- fields with other names than this one are as before
+abbrev pub LeavesFields : Field → Data → Data → Type 0
+LeavesFields name old new = (other : Field) → (spelled other ≡ spelled name → ⊥) → field other new ≡ field other old

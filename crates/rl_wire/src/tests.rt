@@ -49,6 +49,25 @@ fn faults_have_their_fields(rt: HostRuntime) {
 }
 
 #[test]
+fn faults_of_operations_have_their_fields(rt: HostRuntime) {
+    let text =
+        "{\"action\":19,\"channel\":\"room\",\"msgSerial\":0,\"state\":[{\"operation\":{\"action\":4,\"objectId\":\"counter:a@0\",\"counterOp\":{\"amount\":1.5}}}]}";
+    assert!(rt; is_fault(rt.alloc(), text, bad(Field::Amount)));
+    let text = "{\"action\":19,\"channel\":\"room\",\"state\":[]}";
+    assert!(rt; is_fault(rt.alloc(), text, bad(Field::State)));
+}
+
+#[test]
+fn objects_are_written_again(rt: HostRuntime) -> Result<(), NoMemory> {
+    let text =
+        "{\"action\":19,\"channel\":\"room\",\"msgSerial\":0,\"state\":[{\"operation\":{\"action\":5,\"objectId\":\"counter:a@0\"}}]}";
+    assert!(rt; is_written(rt.alloc(), text)?);
+    let text = "{\"action\":20,\"channel\":\"room\",\"channelSerial\":\"1:\",\"state\":[]}";
+    assert!(rt; is_written(rt.alloc(), text)?);
+    Ok(())
+}
+
+#[test]
 fn texts_are_written_again(rt: HostRuntime) -> Result<(), NoMemory> {
     assert!(rt; is_written(rt.alloc(), "{\"action\":1,\"count\":1,\"msgSerial\":0}")?);
     assert!(rt;

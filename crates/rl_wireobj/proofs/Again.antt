@@ -1,5 +1,5 @@
 -- What is written of operations and objects is read as them again.
-use Rattle.std.proofs.Common.{◌≡◌, ℕ, ℤ, pos, negsuc, Bool, true, false, List, Option, Some, None, option_map, Ok, refl, sym, ap, subst, ◌∙◌, All, arith}
+use Rattle.std.proofs.Common.{◌≡◌, ℕ, ℤ, pos, negsuc, true, List, Option, Some, None, option_map, Ok, refl, sym, ap, subst, ◌∙◌, All, arith}
 use Rattle.std.specs.Prelude.{IfSome, ◌-◌, ◌^◌}
 use Rattle.std.proofs.lemmas.Bool.{le-ltb}
 use Rattle.serde_json.specs.Data.{Data, boolean, string, object, Members, no_members, put}
@@ -21,16 +21,16 @@ use Rattle.rl_types.specs.declared.objects.ObjectState.{ObjectState}
 use Rattle.rl_jsonfields.specs.declared.names.Field.{Field}
 use Rattle.rl_jsonfields.specs.declared.names.Field.TheVariants as fields
 use Rattle.rl_jsonfields.specs.Names.{spelled}
-use Rattle.rl_jsonfields.specs.Fields.{Reads, ◌>>=◌, IsSigned, present, whole_in, an_object, some_members, field, required, optional, flag, each_member}
+use Rattle.rl_jsonfields.specs.Fields.{Reads, IsSigned, present, whole_in, an_object, required, optional, each_member}
 use Rattle.rl_jsonfields.specs.Order.{Rise}
-use Rattle.rl_jsonfields.specs.Texts.{num, integer, member_of_each}
+use Rattle.rl_jsonfields.specs.Texts.{num, integer}
 use Rattle.rl_jsonfields.proofs.Got.{found, required_found, optional_found_none, optional_found_one, required_text_found, required_signed_found, optional_signed_found, flag_found, flag_absent, required_members_found, optional_members_found, signed_again, found_rules}
 use Rattle.rl_jsonfields.proofs.Rises.{each_again}
 use Rattle.rl_wireobj.specs.declared.actions.Action.{Action}
 use Rattle.rl_wireobj.specs.declared.actions.Action.TheVariants as actions
 use Rattle.rl_wireobj.specs.Values.{an_id, a_serial, value_in, a_value, with_value, value_json}
-use Rattle.rl_wireobj.specs.Operations.{an_action, semantics, entries_in, entry_at, map_create, map_set, map_remove, counter_create, counter_inc, by_action, operation, op_at, entry_json, entries_json, head_members, operation_members, site_of, op_json}
-use Rattle.rl_wireobj.specs.States.{site_with, site_at, sites, none_at, held, cell_at, counter_of, map_of, body_from, body, state_in, state_at, with_held, cell_json, cells_json, nearest, counter_json, with_body, sites_json, state_members, state_json}
+use Rattle.rl_wireobj.specs.Operations.{an_action, semantics, entries_in, entry_at, map_create, map_set, map_remove, counter_create, counter_inc, by_action, operation, op_at, entry_json, entries_json, head_members, operation_members, op_json}
+use Rattle.rl_wireobj.specs.States.{site_at, sites, cell_at, counter_of, body, state_in, state_at, with_held, cell_json, cells_json, nearest, counter_json, with_body, sites_json, state_members, state_json}
 use Rattle.rl_wireobj.specs.Sendable.{IsValue, AreEntries, IsOp, IsSendableOp, IsSite, IsCell, IsBody, IsSendableState}
 use Rattle.rl_wireobj.proofs.Ids.{id_again, serial_again, bytes_again}
 

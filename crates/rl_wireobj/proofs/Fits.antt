@@ -1,9 +1,9 @@
 -- What holds of each operation, and of each object, that is read of a value whose members stand in order.
-use Rattle.std.proofs.Common.{◌≡◌, ℕ, ℤ, pos, Bool, true, false, cond, List, Option, Some, None, option_map, Ok, Err, refl, ap, subst, ◌∙◌, All, arith}
-use Rattle.std.specs.Prelude.{IfSome, IsTrue, ◌<◌, ◌^◌, option_and_then, unwrap_or}
+use Rattle.std.proofs.Common.{◌≡◌, ℕ, ℤ, pos, Bool, true, false, cond, List, Option, Some, None, option_map, Ok, refl, subst, All, arith}
+use Rattle.std.specs.Prelude.{IfSome, option_and_then, unwrap_or}
 use Rattle.base64.specs.GeneralPurpose.{IsBytes}
 use Rattle.serde_json.specs.Data.{Data, Members, no_members}
-use Rattle.serde_json.specs.Find.{as_str, as_object}
+use Rattle.serde_json.specs.Find.{as_str}
 use Rattle.rl_ids.specs.Forms.{is_site_code}
 use Rattle.rl_ids.specs.Objects.{IsObjectId, object_id_of, IsOpSerial, op_serial_of}
 use Rattle.rl_ids.specs.declared.objects.ObjectId.{ObjectId}
@@ -19,7 +19,7 @@ use Rattle.rl_types.specs.declared.objects.ObjectBody.TheVariants as bodies
 use Rattle.rl_types.specs.declared.objects.ObjectState.{ObjectState}
 use Rattle.rl_jsonfields.specs.declared.names.Field.{Field}
 use Rattle.rl_jsonfields.specs.declared.names.Field.TheVariants as fields
-use Rattle.rl_jsonfields.specs.Fields.{Reads, ◌>>=◌, IsSigned, between, min_signed, max_signed, whole, whole_in, signed, truth, text, an_object, some_members, field, shaped, required, optional, flag, each_member}
+use Rattle.rl_jsonfields.specs.Fields.{Reads, IsSigned, signed, truth, text, an_object, some_members, field, shaped, required, optional, flag, each_member}
 use Rattle.rl_jsonfields.specs.Order.{Ordered, MembersOrdered, Rise}
 use Rattle.rl_jsonfields.proofs.Ordered.{ordered_field, ordered_optional, ordered_shaped, ordered_required, ordered_members_at}
 use Rattle.rl_jsonfields.proofs.Rises.{rises, all_read}

@@ -1,7 +1,6 @@
 -- What is written of operations and objects has no float, and nests little.
-use Rattle.std.proofs.Common.{ℕ, List, Option, Some, None, map, option_map, arith}
-use Rattle.serde_json.specs.Data.{Members, boolean, string, object, no_members}
-use Rattle.serde_json.specs.View.{items_of}
+use Rattle.std.proofs.Common.{ℕ, List, Option, Some, None, option_map, arith}
+use Rattle.serde_json.specs.Data.{Members, string, no_members}
 use Rattle.base64.specs.Engines.{standard}
 use Rattle.base64.specs.GeneralPurpose.{encode_of}
 use Rattle.rl_ids.specs.Objects.{object_id_text, op_serial_text}
@@ -16,10 +15,9 @@ use Rattle.rl_types.specs.declared.objects.MapCell.{MapCell}
 use Rattle.rl_types.specs.declared.objects.ObjectBody.{ObjectBody}
 use Rattle.rl_types.specs.declared.objects.ObjectBody.TheVariants as bodies
 use Rattle.rl_types.specs.declared.objects.ObjectState.{ObjectState}
-use Rattle.rl_jsonfields.specs.declared.names.Field.{Field}
 use Rattle.rl_jsonfields.specs.declared.names.Field.TheVariants as fields
 use Rattle.rl_jsonfields.specs.Names.{spelled}
-use Rattle.rl_jsonfields.proofs.Flat.{Flat, FlatMembers, FlatItems, put_flat, nothing, integer_flat, boolean_flat, text_flat, number_flat, string_flat, with_text_flat, object_flat, items_flat, each_member_flat, deeper}
+use Rattle.rl_jsonfields.proofs.Flat.{Flat, FlatMembers, put_flat, nothing, integer_flat, boolean_flat, text_flat, number_flat, string_flat, with_text_flat, object_flat, each_member_flat, deeper}
 use Rattle.rl_wireobj.specs.Values.{with_value, value_json}
 use Rattle.rl_wireobj.specs.Operations.{entry_json, entries_json, head_members, operation_members, site_of, op_json}
 use Rattle.rl_wireobj.specs.States.{with_held, cell_json, cells_json, nearest, counter_json, with_body, sites_json, state_members, state_json}

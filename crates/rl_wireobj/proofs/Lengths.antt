@@ -1,6 +1,6 @@
 -- How long what is written of operations and objects can be.
-use Rattle.std.proofs.Common.{true, ◌≡◌, ◌≤◌, ◌+◌, ◌*◌, ℕ, List, [], ◌∷◌, ◌++◌, length, map, Option, Some, None, option_map, refl, ap, ◌∙◌, All, arith, length-append}
-use Rattle.std.specs.Prelude.{IfSome, IsTrue, sum_by}
+use Rattle.std.proofs.Common.{true, ◌≡◌, ◌≤◌, ◌+◌, ◌*◌, ℕ, List, [], ◌∷◌, ◌++◌, length, map, Option, Some, None, option_map, refl, ap, All, arith, length-append}
+use Rattle.std.specs.Prelude.{IfSome, sum_by}
 use Rattle.std.proofs.lemmas.List.Elements.{All-head, All-tail}
 use Rattle.std.proofs.lemmas.List.Sums.{sum_by-cons}
 use Rattle.serde_json.specs.Data.{Data, Members, boolean, string, object, no_members, put}
@@ -10,7 +10,6 @@ use Rattle.base64.specs.GeneralPurpose.{encode_of}
 use Rattle.rl_numbers.specs.declared.actions.TheConstants.{MAP_CREATE, MAP_SET, MAP_REMOVE, COUNTER_CREATE, COUNTER_INC, OBJECT_DELETE}
 use Rattle.rl_base.specs.Digits.{fixed_text}
 use Rattle.rl_base.proofs.Digits.{fixed_length}
-use Rattle.rl_ids.specs.Forms.{is_site_code}
 use Rattle.rl_ids.specs.Objects.{object_id_text, op_serial_text, IsOpSerial}
 use Rattle.rl_ids.proofs.ObjectTexts.{op_serial_parts, op_serial_whole, site_form}
 use Rattle.rl_ids.specs.declared.objects.ObjectId.{ObjectId}
@@ -24,12 +23,11 @@ use Rattle.rl_types.specs.declared.objects.MapCell.{MapCell}
 use Rattle.rl_types.specs.declared.objects.ObjectBody.{ObjectBody}
 use Rattle.rl_types.specs.declared.objects.ObjectBody.TheVariants as bodies
 use Rattle.rl_types.specs.declared.objects.ObjectState.{ObjectState}
-use Rattle.rl_types.specs.Weight.{option_len}
 use Rattle.rl_jsonfields.specs.declared.names.Field.{Field}
 use Rattle.rl_jsonfields.specs.declared.names.Field.TheVariants as fields
 use Rattle.rl_jsonfields.specs.Names.{spelled}
 use Rattle.rl_jsonfields.specs.Texts.{num, integer, with_text, member_of_each}
-use Rattle.rl_jsonfields.proofs.Lengths.{bound, items_bound, members_bound, put_bound, name_cost, value_named_bound, each_bound}
+use Rattle.rl_jsonfields.proofs.Lengths.{bound, items_bound, members_bound, value_named_bound, each_bound}
 use Rattle.rl_wireobj.specs.Values.{with_value, value_json}
 use Rattle.rl_wireobj.specs.Operations.{entry_json, entries_json, head_members, operation_members, site_of, op_json}
 use Rattle.rl_wireobj.specs.States.{with_held, cell_json, cells_json, nearest, counter_json, with_body, sites_json, state_members, state_json}

@@ -5,7 +5,7 @@ use Rattle.std.specs.Prelude.{unwrap_or}
 use Rattle.serde_json.specs.Data.{Data, no_members}
 use Rattle.rl_ids.specs.declared.objects.ObjectId.{ObjectId}
 use Rattle.rl_jsonfields.specs.declared.names.Field.TheVariants as fields
-use Rattle.rl_jsonfields.specs.Fields.{Reads, whole_in, signed, text, an_object, some_members, field, each_member}
+use Rattle.rl_jsonfields.specs.Fields.{Reads, whole_in, signed, text, an_object, some_members, field}
 use Rattle.rl_jsonfields.proofs.Named.{Named, then_named, shaped_named, required_named as req, optional_named as opt, flag_named, each_member_named, not_memory}
 use Rattle.rl_wireobj.specs.declared.actions.Action.{Action}
 use Rattle.rl_wireobj.specs.declared.actions.Action.TheVariants as actions

@@ -1,7 +1,7 @@
 -- The numbers of what is written are whole and fit, and the members of its value stand in order.
 use Rattle.std.proofs.Common.{ℕ, ◌<◌, List, Option, Some, None, option_map, All, arith}
 use Rattle.std.specs.Prelude.{IfSome, ◌^◌}
-use Rattle.serde_json.specs.Data.{Members, boolean, string, object, no_members, put}
+use Rattle.serde_json.specs.Data.{Members, string, object, no_members, put}
 use Rattle.base64.specs.Engines.{standard}
 use Rattle.base64.specs.GeneralPurpose.{encode_of}
 use Rattle.rl_ids.specs.Objects.{object_id_text, op_serial_text}
@@ -18,13 +18,12 @@ use Rattle.rl_types.specs.declared.objects.ObjectBody.TheVariants as bodies
 use Rattle.rl_types.specs.declared.objects.ObjectState.{ObjectState}
 use Rattle.rl_jsonfields.specs.declared.names.Field.{Field}
 use Rattle.rl_jsonfields.specs.declared.names.Field.TheVariants as fields
-use Rattle.rl_jsonfields.specs.Fields.{IsSigned}
 use Rattle.rl_jsonfields.specs.Names.{spelled}
 use Rattle.rl_jsonfields.proofs.Compact.{Plain, Orderly, nothing_orderly, put_orderly, number_orderly, integer_orderly, boolean_orderly, string_orderly, with_text_orderly, each_member_orderly}
 use Rattle.rl_wireobj.specs.Values.{with_value, value_json}
 use Rattle.rl_wireobj.specs.Operations.{entry_json, entries_json, head_members, operation_members, site_of, op_json}
 use Rattle.rl_wireobj.specs.States.{with_held, cell_json, cells_json, nearest, counter_json, with_body, sites_json, state_members, state_json}
-use Rattle.rl_wireobj.specs.Sendable.{IsValue, AreEntries, IsOp, IsSendableOp, IsSite, IsCell, IsBody, IsSendableState}
+use Rattle.rl_wireobj.specs.Sendable.{IsValue, IsOp, IsSendableOp, IsSite, IsCell, IsBody, IsSendableState}
 use Rattle.rl_wireobj.proofs.Again.{nearest_fits}
 
 -- an object at a field

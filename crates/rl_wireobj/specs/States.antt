@@ -1,5 +1,5 @@
 -- Objects as a page shows them: how an item of an OBJECT_SYNC frame is read, and how it is written.
-use Rattle.std.specs.Prelude.{ℕ, Bool, true, false, ℤ, int_lt, List, Option, Some, None, option_map, unwrap_or, Ok, Err, if◌then◌else◌}
+use Rattle.std.specs.Prelude.{ℕ, Bool, true, false, ℤ, int_lt, List, Option, Some, None, option_map, Ok, Err, if◌then◌else◌}
 use Rattle.serde_json.specs.Data.{Data, boolean, string, object, Members, no_members}
 use Rattle.rl_ids.specs.Forms.{is_site_code}
 use Rattle.rl_ids.specs.Objects.{object_id_text, op_serial_text}

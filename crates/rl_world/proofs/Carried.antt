@@ -12,7 +12,7 @@ use Rattle.rl_types.specs.declared.messages.Entry.{Entry}
 use Rattle.rl_types.specs.declared.messages.Given.TheVariants.{Ours, Other}
 use Rattle.rl_types.specs.declared.frames.Frame.{Frame}
 use Rattle.rl_types.specs.declared.frames.Frame.TheVariants as frames
-use Rattle.rl_wire.specs.Frames.{max_length}
+use Rattle.rl_numbers.specs.declared.limits.TheConstants.{MAX_FRAME_SIZE}
 use Rattle.rl_wire.specs.Texts.{frame_text}
 use Rattle.rl_wire.specs.Sendable.{IsSendable}
 use Rattle.rl_wire.specs.Sizes.{text_bytes, item_count, message_bytes}
@@ -29,7 +29,7 @@ use Rattle.rl_world.specs.Frames.{body_frame, publish_head, sent_frame, entry_he
 -- a frame that can be sent and whose text is not too long
 pub record IsCarried (frame : Frame) : Type 0 where
   pub sendable : IsSendable frame
-  pub short : length (frame_text frame) ≤ max_length
+  pub short : length (frame_text frame) ≤ MAX_FRAME_SIZE
 
 -- a frame with few bytes and items
 carried_by : (frame : Frame) → IsSendable frame → text_bytes frame ≤ 10000 → item_count frame ≤ 1 → IsCarried frame
@@ -129,17 +129,17 @@ connected_carried =
 -- WHAT ARRIVES
 
 abbrev Arrives : Frame → Option Frame → Type 0
-Arrives frame arrived = IsSendable frame → length (frame_text frame) ≤ max_length → arrived ≡ Some frame
+Arrives frame arrived = IsSendable frame → length (frame_text frame) ≤ MAX_FRAME_SIZE → arrived ≡ Some frame
 
 there : (frame made : Frame) (arrived : Option Frame) → frame ≡ made → IsCarried made → Arrives frame arrived → arrived ≡ Some made
 there frame made arrived is carried arrives =
-    arrives (subst IsSendable (sym is) carried.sendable) (subst (λ f. length (frame_text f) ≤ max_length) (sym is) carried.short) ∙ ap (λ f. Some f) is
+    arrives (subst IsSendable (sym is) carried.sendable) (subst (λ f. length (frame_text f) ≤ MAX_FRAME_SIZE) (sym is) carried.short) ∙ ap (λ f. Some f) is
 
 -- what is taken from what arrives is what was sent
 pub got_back : {X : Type 0} (back : Frame → Option X) (frame made : Frame) (x : X) (arrived : Option Frame) (got : Option X) → frame ≡ made → IsCarried made → back made ≡ Some x
-    → (IsSendable frame → length (frame_text frame) ≤ max_length → arrived ≡ Some frame) → got ≡ option_and_then back arrived → got ≡ Some x
+    → (IsSendable frame → length (frame_text frame) ≤ MAX_FRAME_SIZE → arrived ≡ Some frame) → got ≡ option_and_then back arrived → got ≡ Some x
 got_back back frame made x arrived got is carried says arrives shown = shown ∙ ap (option_and_then back) (there frame made arrived is carried arrives) ∙ says
 
 pub connected_back : (frame : Frame) (arrived : Option Frame) (got : Bool) → frame ≡ connected_frame
-    → (IsSendable frame → length (frame_text frame) ≤ max_length → arrived ≡ Some frame) → got ≡ is_connected arrived → got ≡ true
+    → (IsSendable frame → length (frame_text frame) ≤ MAX_FRAME_SIZE → arrived ≡ Some frame) → got ≡ is_connected arrived → got ≡ true
 connected_back frame arrived got is arrives shown = shown ∙ ap is_connected (there frame connected_frame arrived is connected_carried arrives)

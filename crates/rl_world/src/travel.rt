@@ -1,7 +1,7 @@
 //! What travels between the client and the service: frames, as their JSON bytes.
 ghost use Rattle.std.specs.Prelude.{◌≡◌, ◌≤◌, ◌<◌, ◌^◌, length, true, Some, option_and_then, IfOk, IfSome};
 ghost use Rattle.rl_ids.specs.Forms.{IsSerial};
-ghost use Rattle.rl_wire.specs.Frames.{frame_at, max_length};
+ghost use Rattle.rl_wire.specs.Frames.{frame_at};
 ghost use Rattle.rl_wire.specs.Texts.{frame_text};
 ghost use Rattle.rl_wire.specs.Sendable.{IsSendable};
 ghost use Rattle.rl_model.specs.Limits.{IsChannelName};
@@ -15,7 +15,9 @@ use rl_ids::{ChannelSerial, Copied, NoMemory, Place, Text, write_conn};
 use rl_model::Sent;
 use rl_numbers::codes::NOT_RETAINED;
 use rl_numbers::flags::{HAS_PRESENCE, RESUMED};
-use rl_numbers::limits::{CONNECTION_STATE_TTL, MAX_IDLE_INTERVAL, MAX_MESSAGE_SIZE};
+use rl_numbers::limits::{
+    CONNECTION_STATE_TTL, MAX_FRAME_SIZE, MAX_IDLE_INTERVAL, MAX_MESSAGE_SIZE,
+};
 use rl_types::{Body, Entry, Frame, Given, Head, WireFault};
 use rl_wire::{read_frame, write_frame};
 use std::alloc::Global;
@@ -23,7 +25,7 @@ use std::alloc::Global;
 // What arrives of a frame that is sent: the frame that its bytes are, if they are one.
 fn carried(alloc: Global, frame: &Frame) -> Result<Option<Frame>, NoMemory>
     ensures read { IfOk result (λ arrived. arrived ≡ arrival (frame_at (frame_text frame.now))) }
-    ensures whole { IfOk result (λ arrived. IsSendable frame.now → length (frame_text frame.now) ≤ max_length → arrived ≡ Some frame.now) }
+    ensures whole { IfOk result (λ arrived. IsSendable frame.now → length (frame_text frame.now) ≤ MAX_FRAME_SIZE → arrived ≡ Some frame.now) }
 {
     let bytes = write_frame(alloc, frame)?;
     match read_frame(alloc, bytes.as_slice()) {
