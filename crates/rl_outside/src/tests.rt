@@ -146,7 +146,9 @@ fn a_reader_that_is_interrupted_and_fails_goes_on(rt: HostRuntime) -> Result<(),
 }
 
 #[test]
-fn a_writer_that_is_interrupted_or_fails_or_takes_nothing_goes_on(rt: HostRuntime) -> Result<(), Fail> {
+fn a_writer_that_is_interrupted_or_fails_or_takes_nothing_goes_on(
+    rt: HostRuntime,
+) -> Result<(), Fail> {
     use Gave::{Bytes, Failed};
     let mut writer = ShakyWriter {
         written: Vec::new(rt.alloc()),
