@@ -6,9 +6,9 @@ use Rattle.std.specs.List.{list_any}
 abbrev pub Rose : ℕ → ℕ → Type 0
 Rose before now = min (before + 1) (2 ^ 64 - 1) ≤ now
 
--- one fault more. The count stands still at its end
-abbrev pub one_fault : ℕ → ℕ
-one_fault before = min (before + 1) (2 ^ 64 - 1)
+-- one more of what is counted. The count stands still at its end
+abbrev pub one_more : ℕ → ℕ
+one_more before = min (before + 1) (2 ^ 64 - 1)
 
 -- one call more, which is also the number of that call. The count stands still at its end
 abbrev pub one_call : ℕ → ℕ

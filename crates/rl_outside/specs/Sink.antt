@@ -3,7 +3,7 @@ use Rattle.std.specs.Prelude.{◌≡◌, ℕ, ◌≤◌, List, take, length, Opt
 use Rattle.std.specs.Io.KnownBytes.{Appends, Keeps}
 use Rattle.rl_outside.specs.declared.sink.Gave.{Gave}
 use Rattle.rl_outside.specs.declared.sink.Gave.TheVariants.{Bytes, Failed}
-use Rattle.rl_outside.specs.Counts.{Rose, one_fault}
+use Rattle.rl_outside.specs.Counts.{Rose, one_more}
 
 -- the first bytes of those given are written, at least one
 abbrev pub WriteGives : Option (List ℕ) → Option (List ℕ) → Gave → List ℕ → Type 0
@@ -17,5 +17,5 @@ WriteCounts before now _ = now ≡ before
 
 -- the faults after a write, where each is counted
 abbrev pub faults_after_write : ℕ → Gave → ℕ
-faults_after_write before Failed = one_fault before
+faults_after_write before Failed = one_more before
 faults_after_write before _ = before

@@ -3,7 +3,7 @@ use Rattle.std.specs.Prelude.{◌≡◌, ℕ, ◌≤◌, List, take, length, Opt
 use Rattle.std.specs.Io.KnownBytes.{Consumes, Keeps, IsAtEnd}
 use Rattle.rl_outside.specs.declared.source.Took.{Took}
 use Rattle.rl_outside.specs.declared.source.Took.TheVariants.{Bytes, End, Failed}
-use Rattle.rl_outside.specs.Counts.{Rose, one_fault}
+use Rattle.rl_outside.specs.Counts.{Rose, one_more}
 
 -- the bytes given are the first that were left. None are left only at the end
 abbrev pub ReadTakes : Option (List ℕ) → Option (List ℕ) → Took → List ℕ → Type 0
@@ -16,7 +16,17 @@ abbrev pub ReadCounts : ℕ → ℕ → Took → Type 0
 ReadCounts before now Failed = (before ≤ now) × Rose before now
 ReadCounts before now _ = now ≡ before
 
+-- ends are counted, and only where a read found nothing left
+abbrev pub EndCounts : ℕ → ℕ → Took → Type 0
+EndCounts before now End = (before ≤ now) × Rose before now
+EndCounts before now _ = now ≡ before
+
+-- the ends after a read, where each is counted
+abbrev pub ends_after_read : ℕ → Took → ℕ
+ends_after_read before End = one_more before
+ends_after_read before _ = before
+
 -- the faults after a read, where each is counted
 abbrev pub faults_after_read : ℕ → Took → ℕ
-faults_after_read before Failed = one_fault before
+faults_after_read before Failed = one_more before
 faults_after_read before _ = before

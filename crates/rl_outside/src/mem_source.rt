@@ -1,6 +1,6 @@
 // A source in memory.
 ghost use Rattle.std.specs.Prelude.{◌≡◌, ◌<◌, ◌≤◌, length, IfOk, Some};
-ghost use Rattle.rl_outside.specs.Source.{ReadTakes, ReadCounts};
+ghost use Rattle.rl_outside.specs.Source.{ReadTakes, ReadCounts, EndCounts};
 ghost use Rattle.rl_outside.specs.MemSource.{answer, taken, rest, after_read, filled};
 
 use crate::counts::is_listed;
@@ -18,6 +18,7 @@ pub struct MemSource {
     fail: Vec<u32>,
     calls: u32,
     faults: u64,
+    ends: u64,
 }
 
 impl Model for MemSource {
@@ -32,6 +33,7 @@ impl Model for MemSource {
       fail = s.fail.items;
       calls = s.calls;
       faults = s.faults;
+      ends = s.ends;
     } };
 
     ghost invariant = { λ s. (1 ≤ s.piece) × (s.at ≤ length s.bytes.items) };
@@ -54,6 +56,7 @@ impl MemSource {
           fail = fail.now;
           calls = 0;
           faults = 0;
+          ends = 0;
         }) }
     {
         Ok(MemSource {
@@ -63,6 +66,7 @@ impl MemSource {
             fail: Vec::from_slice(alloc, fail)?,
             calls: 0,
             faults: 0,
+            ends: 0,
         })
     }
 }
@@ -88,12 +92,15 @@ impl Source for MemSource {
 
     ghost faults = { λ s. s.faults };
 
+    ghost ends = { λ s. s.ends };
+
     /// Fails exactly where the number of this read is among those that fail. Else it is at the end exactly
     /// where nothing is left, and else it gives as many bytes as the piece, the buffer and what is left allow.
     fn read(&mut self, into: &mut [u8]) -> Took
         requires { 0 < length into.old }
         ensures bytes { ReadTakes (Some self.old.left) (Some self.new.left) result into.new }
         ensures cause { ReadCounts self.old.faults self.new.faults result }
+        ensures end { EndCounts self.old.ends self.new.ends result }
         ensures answer { result ≡ answer self.old (length into.old) }
         ensures after { self.new ≡ after_read self.old result }
         ensures filled { into.new ≡ filled self.old.left result into.old }
@@ -104,8 +111,10 @@ impl Source for MemSource {
             return Took::Failed;
         }
         let took = take_piece(&self.bytes[self.at..], self.piece, into);
-        if let Took::Bytes(count) = took {
-            self.at += count;
+        match took {
+            Took::Bytes(count) => self.at += count,
+            Took::End => self.ends = self.ends.saturating_add(1),
+            Took::Failed => {}
         }
         took
     }

@@ -8,6 +8,9 @@ use std::test::Fail;
 
 const TURNS: usize = 5;
 
+// How often a call is interrupted before it goes on.
+const INTERRUPTIONS: u32 = 5_000;
+
 // What reads into a small buffer answered, and the bytes that they gave.
 fn read_turns<S: Source>(alloc: Global, source: &mut S) -> Result<(Vec<Took>, Vec<u8>), NoMemory> {
     let mut answers = Vec::new(alloc);
@@ -40,7 +43,7 @@ fn write_turns<K: Sink>(alloc: Global, sink: &mut K, bytes: &[u8]) -> Result<Vec
     Ok(answers)
 }
 
-// Two bytes a call. The second call is interrupted and the third fails.
+// Two bytes a call. The second is interrupted for a long time and then fails.
 #[derive(Drop)]
 struct ShakyReader<'a> {
     left: &'a [u8],
@@ -50,10 +53,10 @@ struct ShakyReader<'a> {
 impl Read for ShakyReader<'_> {
     fn read(&mut self, buf: &mut [u8]) -> io::Result<usize> {
         self.calls = self.calls.saturating_add(1);
-        if self.calls == 2 {
+        if self.calls > 1 && self.calls - 2 < INTERRUPTIONS {
             return Err(io::Error::from(ErrorKind::Interrupted));
         }
-        if self.calls == 3 {
+        if self.calls == INTERRUPTIONS + 2 {
             return Err(io::Error::from(ErrorKind::ConnectionReset));
         }
         let count = buf.len().min(self.left.len()).min(2);
@@ -63,7 +66,8 @@ impl Read for ShakyReader<'_> {
     }
 }
 
-// Two bytes a call. The second call is interrupted, the third fails and the fifth takes nothing.
+// Two bytes a call. The second is interrupted for a long time and then fails, and the one after the next takes
+// nothing.
 #[derive(Drop)]
 struct ShakyWriter {
     written: Vec<u8>,
@@ -73,11 +77,16 @@ struct ShakyWriter {
 impl Write for ShakyWriter {
     fn write(&mut self, buf: &[u8]) -> io::Result<usize> {
         self.calls = self.calls.saturating_add(1);
-        let count = match self.calls {
-            2 => return Err(io::Error::from(ErrorKind::Interrupted)),
-            3 => return Err(io::Error::from(ErrorKind::BrokenPipe)),
-            5 => 0,
-            _ => buf.len().min(2),
+        if self.calls > 1 && self.calls - 2 < INTERRUPTIONS {
+            return Err(io::Error::from(ErrorKind::Interrupted));
+        }
+        if self.calls == INTERRUPTIONS + 2 {
+            return Err(io::Error::from(ErrorKind::BrokenPipe));
+        }
+        let count = if self.calls == INTERRUPTIONS + 4 {
+            0
+        } else {
+            buf.len().min(2)
         };
         self.written.extend_from_slice(&buf[..count])?;
         Ok(count)
@@ -121,7 +130,7 @@ fn a_memory_sink_takes_all_and_fails_at_the_listed_writes(rt: HostRuntime) -> Re
 }
 
 #[test]
-fn a_reader_that_fails_once_goes_on(rt: HostRuntime) -> Result<(), Fail> {
+fn a_reader_that_is_interrupted_and_fails_goes_on(rt: HostRuntime) -> Result<(), Fail> {
     use Took::{Bytes, End, Failed};
     let mut source = ReaderSource::new(ShakyReader {
         left: b"abcde",
@@ -137,7 +146,9 @@ fn a_reader_that_fails_once_goes_on(rt: HostRuntime) -> Result<(), Fail> {
 }
 
 #[test]
-fn a_writer_that_fails_or_takes_nothing_goes_on(rt: HostRuntime) -> Result<(), Fail> {
+fn a_writer_that_is_interrupted_or_fails_or_takes_nothing_goes_on(
+    rt: HostRuntime,
+) -> Result<(), Fail> {
     use Gave::{Bytes, Failed};
     let mut writer = ShakyWriter {
         written: Vec::new(rt.alloc()),

@@ -26,7 +26,7 @@ impl<W: Write> WriterSink<W> {
     }
 }
 
-// One write, which is tried again where it is interrupted.
+// One write, which is tried again where it is interrupted, however often.
 fn write_once<W: Write>(writer: &mut W, from: &[u8]) -> io::Result<usize>
     ensures bound { WritesAtMost result from.now }
     ensures bytes { WriteAppends (W.contents writer.old) (W.contents writer.new) result from.now }
@@ -46,8 +46,8 @@ impl<W: Write> Sink for WriterSink<W> {
 
     ghost faults = { λ s. s.faults };
 
-    /// One write of the writer. It fails where the writer does or took no byte, but is tried again where it
-    /// was interrupted.
+    /// One write of the writer. It fails where the writer does or took no byte, but is tried again as often as
+    /// it is interrupted.
     fn write(&mut self, from: &[u8]) -> Gave
         requires { 0 < length from.now }
         ensures bytes { WriteGives None None result from.now }

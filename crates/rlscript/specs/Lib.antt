@@ -1,3 +1,4 @@
 pub mod Top
 pub mod Input
 pub mod Stages
+pub mod Start

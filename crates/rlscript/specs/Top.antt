@@ -1,10 +1,11 @@
 -- What the program writes for each status, and when it ends with it. (This project's own.)
-use Rattle.std.specs.Prelude.{◌≡◌, ◌⊎◌, ℕ, ◌≤◌, Bool, true, false, List, [], ◌∷◌, ◌++◌, take, map, Option, Some, None, Result, Ok, Err, IsTrue, IsFalse, IsSome, IfSome, ◌≢◌, String, string_bytes, codes, decimal, bytes_eq, if◌then◌else◌}
+use Rattle.std.specs.Prelude.{◌≡◌, ◌⊎◌, ℕ, ◌<◌, ◌≤◌, length, Bool, true, false, List, [], ◌∷◌, ◌++◌, take, map, Option, Some, None, Result, Ok, Err, IsTrue, IsFalse, IsSome, IfSome, ◌≢◌, String, string_bytes, codes, decimal, bytes_eq, if◌then◌else◌}
 use Rattle.std.specs.Io.KnownBytes.{Keeps, Appends}
 use Rattle.std.specs.declared.alloc.Global.{Global}
 use Rattle.rl_types.specs.declared.script.Line.{Line}
 use Rattle.rl_types.specs.declared.script.ScriptCause.{ScriptCause}
 use Rattle.rl_outside.specs.Counts.{Rose}
+use Rattle.rl_model.specs.Records.{the_site}
 use Rattle.rl_model.specs.World.{final}
 use Rattle.rl_model.specs.Findings.{findings}
 use Rattle.rl_model.specs.Report.{report}
@@ -13,6 +14,7 @@ use Rattle.rl_claims.specs.Sound.{HasSoundRecords, OpensAgainOnlyAfterLeaving}
 use Rattle.rl_claims.specs.Once.{OnceById}
 use Rattle.rl_scriptlang.specs.Words.{cause_word}
 use Rattle.rl_world.specs.State.{WorldState, StandsFor}
+use Rattle.rlscript.specs.Input.{most_taken}
 
 -- THE WORDS
 
@@ -50,6 +52,8 @@ pub record Outside : Type 0 where
   pub left_after : Option (List ℕ)
   pub read_faults : ℕ  -- how often the source had failed
   pub read_faults_after : ℕ
+  pub ends : ℕ  -- how often the source had been read to its end
+  pub ends_after : ℕ
   pub written : Option (List ℕ)  -- what the sink held, where it tells it
   pub written_after : Option (List ℕ)
   pub write_faults : ℕ  -- how often the sink had failed
@@ -69,6 +73,9 @@ Wrote o text = Appends o.written o.written_after text
 abbrev pub WroteFront : Outside → List ℕ → Type 0
 WroteFront o text = (count : ℕ) × Wrote o (take count text)
 
+abbrev pub WroteUsageFront : Outside → Type 0
+WroteUsageFront o = WroteFront o usage
+
 -- these bytes were taken from the source, which tells what it has left
 abbrev pub TookFrom : Option (List ℕ) → Option (List ℕ) → List ℕ → Type 0
 TookFrom (Some bytes) (Some rest) taken = bytes ≡ taken ++ rest
@@ -77,9 +84,23 @@ TookFrom _ _ taken = ⊥
 abbrev pub Took : Outside → List ℕ → Type 0
 Took o taken = TookFrom o.left o.left_after taken
 
+-- a read found nothing left
+abbrev pub Ended : Outside → Type 0
+Ended o = Rose o.ends o.ends_after
+
 -- these are all the bytes that the source had left, and it was read to its end
 abbrev pub TookAll : Outside → List ℕ → Type 0
-TookAll o bytes = (o.left ≡ Some bytes) × (o.left_after ≡ Some [])
+TookAll o bytes = (o.left ≡ Some bytes) × (o.left_after ≡ Some []) × Ended o
+
+-- what was taken ends at the limit: it is at most one piece longer than a script may be
+abbrev pub TookWithinLimit : Outside → Type 0
+TookWithinLimit o = (taken : List ℕ) × Took o taken × (length taken ≤ most_taken)
+
+-- the source was not read
+pub record Unread (o : Outside) : Type 0 where
+  pub left : Keeps o.left o.left_after
+  pub faults : o.read_faults_after ≡ o.read_faults
+  pub ends : o.ends_after ≡ o.ends
 
 -- whether the source tells what it has left
 abbrev pub Tells : Outside → Type 0
@@ -104,7 +125,7 @@ pub record Reports (o : Outside) (world : Option WorldState) : Type 0 where
   pub wrote : Wrote o (script_report script)
   pub sound : HasSoundRecords (final script)
   pub reopened : OpensAgainOnlyAfterLeaving script
-  pub once : OnceById (final script).past
+  pub once : OnceById the_site (final script).past
   pub handed_on : IsWorldOf world script
 
 -- 3: the source was read to its end, and the first line outside the grammar was written with its cause
@@ -152,19 +173,27 @@ pub record Ends (asked : Bool) (o : Outside) (status : ℕ) (world : Option Worl
   -- the world is there exactly at 0
   pub handed_on : status ≡ 0 → IsSome world
   pub kept_back : status ≢ 0 → world ≡ None
-  -- 2: nothing is read
+  -- 2: nothing is read, nor is it where writing the usage fails
   pub usage : status ≡ 2 → (asked ≡ false) × Keeps o.left o.left_after × Wrote o usage
   pub usage_always : asked ≡ false → (status ≡ 2) ⊎ (status ≡ 5)
+  pub usage_front : asked ≡ false → status ≡ 5 → WroteUsageFront o
+  pub unread : asked ≡ false → Unread o
   -- 3
   pub refused : status ≡ 3 → Tells o → Refuses o
+  -- 0 and 3 come only where the source was read to its end
+  pub ended : (status ≡ 0) ⊎ (status ≡ 3) → Ended o
+  -- where it was, which a count that is not at its last value shows, the bytes decide, whatever reads failed
+  -- before: so 3 is owed wherever a line is outside the grammar
+  pub ended_always : asked ≡ true → o.ends < o.ends_after → IfSome o.left (λ bytes. (status ≡ status_of bytes) ⊎ ((status ≡ 5) ⊎ (status ≡ 7)))
   -- 4
   pub read_fault : status ≡ 4 → SourceFailed o × Wrote o read_fault
   -- 5: the front of what was to be written stands in the sink
   pub write_fault : status ≡ 5 → SinkFailed o
   pub front : status ≡ 5 → Tells o → (text : List ℕ) × IsToBeWritten asked o text × WroteFront o text
-  -- 6
+  -- 6, and how far the source is read at any status
   pub too_much : status ≡ 6 → (Tells o → TookTooMuch o) × Wrote o too_long
   pub too_much_always : TookTooMuch o → (status ≡ 6) ⊎ ((status ≡ 5) ⊎ (status ≡ 7))
+  pub within_limit : Tells o → TookWithinLimit o
   -- 7: nothing is written. It alone may come at any time: memory ran out
   pub no_memory : status ≡ 7 → (asked ≡ true) × Keeps o.written o.written_after
   pub others : (status ≤ 7) × (status ≢ 1)

@@ -1,16 +1,16 @@
 // The bytes of a source, to its end or to the limit of a script.
 ghost use Rattle.std.specs.Prelude.{◌≡◌, ◌++◌, [], OnOk, count_by};
 ghost use Rattle.rl_model.specs.Script.{is_feed, ends_open, is_too_long};
-ghost use Rattle.rlscript.specs.Input.{ReadInput};
+ghost use Rattle.rlscript.specs.Input.{ReadBytes, ReadFaults, ReadEnds};
 
 use rl_ids::{Blob, NoMemory};
+use rl_numbers::limits::{MAX_SCRIPT_LINES, MAX_SCRIPT_SIZE};
 use rl_outside::{Source, Took};
 use std::alloc::Global;
 use std::marker::Model;
 
-const MAX_BYTES: usize = 16_777_216;
-
-const MAX_LINES: usize = 100_000;
+/// The most bytes that one read takes.
+pub const PIECE: usize = 4_096;
 
 /// What reading a script came to.
 #[derive(Drop)]
@@ -87,7 +87,7 @@ impl Taken {
         } else {
             self.feeds
         };
-        self.bytes.len() > MAX_BYTES || lines > MAX_LINES
+        self.bytes.len() > MAX_SCRIPT_SIZE || lines > MAX_SCRIPT_LINES
     }
 
     fn into_bytes(self) -> Blob
@@ -99,12 +99,15 @@ impl Taken {
 }
 
 /// Reads until the source has nothing left, it fails, or more was taken than a script may have. Each turn takes
-/// at least one byte, so it ends at the limit.
+/// at least one byte, so it ends at the limit: it takes at most [`PIECE`] bytes beyond the size that a script may
+/// have.
 pub fn read_input<S: Source>(alloc: Global, src: &mut S) -> Input
-    ensures { ReadInput result (S.left src.old) (S.left src.new) (S.faults src.old) (S.faults src.new) }
+    ensures bytes { ReadBytes result (S.left src.old) (S.left src.new) }
+    ensures faults { ReadFaults result (S.faults src.old) (S.faults src.new) }
+    ensures ends { ReadEnds result (S.ends src.old) (S.ends src.new) }
 {
     let mut taken = Taken::new(alloc);
-    let mut buffer = [0u8; 4096];
+    let mut buffer = [0u8; PIECE];
     loop {
         match src.read(&mut buffer) {
             Took::End => return Input::Whole(taken.into_bytes()),

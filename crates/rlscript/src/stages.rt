@@ -7,6 +7,7 @@ ghost use Rattle.rlscript.specs.Stages.{Said, Ran, RanScript, Reported};
 
 use crate::top::ScriptEnd;
 use rl_ids::{Blob, NoMemory};
+use rl_numbers::limits::MAX_SCRIPT_SIZE;
 use rl_outside::{Gave, Sink};
 use rl_report::report;
 use rl_scriptlang::{ScriptFault, cause_word, read_script};
@@ -72,7 +73,7 @@ fn run_script<K: Sink>(alloc: Global, script: &Script, out: &mut K) -> ScriptEnd
 
 /// Reads the bytes as a script, runs it and writes its report; or says which line is refused.
 pub fn run_bytes<K: Sink>(alloc: Global, bytes: &[u8], out: &mut K) -> ScriptEnd
-    requires { length bytes.now ≤ 16777216 }
+    requires { length bytes.now ≤ MAX_SCRIPT_SIZE }
     ensures { Ran bytes.now result.status result.world (K.written out.old) (K.written out.new) (K.faults out.old) (K.faults out.new) }
 {
     match read_script(alloc, bytes) {

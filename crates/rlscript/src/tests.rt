@@ -1,8 +1,13 @@
 //! The program as a newcomer meets it, over memory: its statuses and what it writes.
+use crate::start::program;
 use crate::top::script_top;
 use rl_ids::NoMemory;
 use rl_outside::{MemSink, MemSource};
 use std::alloc::Global;
+use std::env::Args;
+use std::io;
+use std::io::ErrorKind;
+use std::process::ExitCode;
 
 const HELLO: &str = "client A\nopen A\nattach A room\npub A room hi\nsettle\n";
 
@@ -138,5 +143,35 @@ fn limits_are_met(rt: HostRuntime) -> Result<(), NoMemory> {
         let script = long_script(rt.alloc(), bytes, width)?;
         assert_eq!(rt; status_of(rt.alloc(), &script)?, status, "{bytes} bytes");
     }
+    Ok(())
+}
+
+// How the program ends for these arguments, and what it writes.
+fn ends_with(
+    alloc: Global,
+    args: io::Result<Args>,
+    status: u8,
+    written: &str,
+) -> Result<bool, NoMemory> {
+    let mut source = MemSource::new(alloc, HELLO.as_bytes(), 4096, &[])?;
+    let mut sink = MemSink::new(alloc, &[])?;
+    let code = program(alloc, args, &mut source, &mut sink);
+    Ok(code == ExitCode::from(status) && sink.as_slice() == written.as_bytes())
+}
+
+#[test]
+fn arguments_choose_what_is_done(rt: HostRuntime) -> Result<(), NoMemory> {
+    let rows: [(&[&str], u8, &str); 4] = [
+        (&["rlscript"], 0, HELLO_REPORT),
+        (&["rlscript", "run"], 0, HELLO_REPORT),
+        (&["rlscript", "run", "x"], 2, USAGE),
+        (&["run", "x"], 2, USAGE),
+    ];
+    for (args, status, written) in rows {
+        let args = texts(rt.alloc(), args)?.into_iter();
+        assert!(rt; ends_with(rt.alloc(), Ok(args), status, written)?);
+    }
+    let faulty = Err(io::Error::from(ErrorKind::InvalidData));
+    assert!(rt; ends_with(rt.alloc(), faulty, 2, USAGE)?);
     Ok(())
 }

@@ -1,6 +1,7 @@
 // The top call.
 ghost use Rattle.std.specs.Prelude.{◌≡◌, None};
-ghost use Rattle.rlscript.specs.Top.{asks_for_run, words_of, Ends, EndsRun};
+ghost use Rattle.rlscript.specs.Top.{asks_for_run, words_of, usage, Ends, EndsRun};
+ghost use Rattle.rlscript.specs.Stages.{Said};
 
 use crate::input::{Input, read_input};
 use crate::stages::{run_bytes, say};
@@ -20,6 +21,9 @@ pub struct ScriptEnd {
     /// 0: the report was written. 2: the words are others, and the usage was written. 3: a line is outside the
     /// grammar, and its number and cause were written. 4: a read failed. 5: a write failed. 6: the script has
     /// more than 16,777,216 bytes or 100,000 lines. 7: want of memory.
+    ///
+    /// 3 comes exactly where the source was read to its end, its bytes are no more than a script may have, and a
+    /// line is outside the grammar; 6 exactly where more was taken. Both yield to 5 and to 7, and 2 yields to 5.
     pub status: u8,
     /// The world in which the script was run, exactly at status 0.
     pub world: Option<World>,
@@ -47,6 +51,13 @@ fn asks_for_run(words: &[String]) -> bool
     }
 }
 
+/// Writes the usage.
+pub fn refuse_words<K: Sink>(out: &mut K) -> u8
+    ensures { Said result 2 (K.written out.old) (K.written out.new) (K.faults out.old) (K.faults out.new) usage }
+{
+    say(out, USAGE.as_bytes(), 2)
+}
+
 // Reads a script, runs it and writes its report.
 fn run_source<S: Source, K: Sink>(alloc: Global, src: &mut S, out: &mut K) -> ScriptEnd
     ensures { EndsRun (record {
@@ -54,6 +65,8 @@ fn run_source<S: Source, K: Sink>(alloc: Global, src: &mut S, out: &mut K) -> Sc
       left_after = S.left src.new;
       read_faults = S.faults src.old;
       read_faults_after = S.faults src.new;
+      ends = S.ends src.old;
+      ends_after = S.ends src.new;
       written = K.written out.old;
       written_after = K.written out.new;
       write_faults = K.faults out.old;
@@ -88,6 +101,8 @@ pub fn script_top<S: Source, K: Sink>(
           left_after = S.left src.new;
           read_faults = S.faults src.old;
           read_faults_after = S.faults src.new;
+          ends = S.ends src.old;
+          ends_after = S.ends src.new;
           written = K.written out.old;
           written_after = K.written out.new;
           write_faults = K.faults out.old;
@@ -99,6 +114,6 @@ pub fn script_top<S: Source, K: Sink>(
     if asks_for_run(words) {
         run_source(alloc, src, out)
     } else {
-        ScriptEnd::without_world(say(out, USAGE.as_bytes(), 2))
+        ScriptEnd::without_world(refuse_words(out))
     }
 }
