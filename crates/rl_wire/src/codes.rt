@@ -3,8 +3,8 @@ ghost use Rattle.serde_json.specs.View.{view, members_view};
 ghost use Rattle.rl_wire.specs.Texts.{code_name, error_value, with_error};
 
 use rl_ids::NoMemory;
-use rl_numbers::codes;
 use rl_jsonfields::{Field, Object, set_number, set_text, set_value};
+use rl_numbers::codes;
 use serde_json::{Map, Value};
 use std::alloc::Global;
 
@@ -49,7 +49,12 @@ pub fn error_value(alloc: Global, code: u32) -> Result<Value, NoMemory>
     let mut object = Map::new(alloc);
     set_number(alloc, &mut object, Field::Code, u64::from(code))?;
     set_text(alloc, &mut object, Field::Message, name_of_code(code))?;
-    set_number(alloc, &mut object, Field::StatusCode, u64::from(codes::STATUS_CODE))?;
+    set_number(
+        alloc,
+        &mut object,
+        Field::StatusCode,
+        u64::from(codes::STATUS_CODE),
+    )?;
     Ok(Value::Object(object))
 }
 

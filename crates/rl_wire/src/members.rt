@@ -50,7 +50,12 @@ pub fn ack_members_of(alloc: Global, serial: u64, count: u32) -> Result<Object, 
 }
 
 #[tactic(auto, unfolding(crate::specs::Texts::frame_members))]
-pub fn nack_members_of(alloc: Global, serial: u64, count: u32, code: u32) -> Result<Object, NoMemory>
+pub fn nack_members_of(
+    alloc: Global,
+    serial: u64,
+    count: u32,
+    code: u32,
+) -> Result<Object, NoMemory>
     ensures { IfOk result (λ m. members_view m.entries ≡ frame_members (frames.Nack serial count code)) }
 {
     let mut object = action_members_of(alloc, actions::NACK)?;
@@ -108,7 +113,11 @@ pub fn disconnected_members_of(alloc: Global, code: Option<u32>) -> Result<Objec
 }
 
 #[tactic(auto, unfolding(crate::specs::Texts::frame_members))]
-pub fn error_members_of(alloc: Global, channel: &Option<Text>, code: u32) -> Result<Object, NoMemory>
+pub fn error_members_of(
+    alloc: Global,
+    channel: &Option<Text>,
+    code: u32,
+) -> Result<Object, NoMemory>
     ensures { IfOk result (λ m. members_view m.entries ≡ frame_members (frames.Error channel.now code)) }
 {
     let mut object = action_members_of(alloc, actions::ERROR)?;
@@ -176,7 +185,11 @@ pub fn detach_members_of(alloc: Global, channel: &Text) -> Result<Object, NoMemo
 }
 
 #[tactic(auto, unfolding(crate::specs::Texts::frame_members))]
-pub fn detached_members_of(alloc: Global, channel: &Text, code: Option<u32>) -> Result<Object, NoMemory>
+pub fn detached_members_of(
+    alloc: Global,
+    channel: &Text,
+    code: Option<u32>,
+) -> Result<Object, NoMemory>
     ensures { IfOk result (λ m. members_view m.entries ≡ frame_members (frames.Detached channel.now code)) }
 {
     let mut object = channel_members_of(alloc, actions::DETACHED, channel)?;
@@ -236,7 +249,11 @@ pub fn presence_members_of(
 }
 
 #[tactic(auto, unfolding(crate::specs::Texts::frame_members))]
-pub fn message_members_of(alloc: Global, head: &Head, items: &List<Item>) -> Result<Object, NoMemory>
+pub fn message_members_of(
+    alloc: Global,
+    head: &Head,
+    items: &List<Item>,
+) -> Result<Object, NoMemory>
     ensures { IfOk result (λ m. members_view m.entries ≡ frame_members (frames.Message head.now items.now)) }
 {
     let mut object = head_members_of(alloc, actions::MESSAGE, head)?;

@@ -5,10 +5,10 @@ ghost use Rattle.rl_jsonfields.specs.Fields.{Gives};
 ghost use Rattle.rl_wire.specs.Frames.{ack, nack, details, connection_details, connected, disconnected, error, attach, attached, detach, detached, frame_in, json_frame, frame_at};
 
 use crate::actions::{Action, action_of};
+use crate::details::ConnectionDetails;
 use crate::heads::{
     channel_of, count_of, error_code_of, msg_serial_of, optional_given, required_serial,
 };
-use crate::details::ConnectionDetails;
 use crate::lists::{message_of, objects_of, operations_of, presence_of, sync_of};
 use rl_jsonfields::{
     Field, optional_number, optional_text, required_any_text, required_object, required_whole,

@@ -6,9 +6,10 @@ ghost use Rattle.rl_wire.specs.Sendable.{IsSendable};
 ghost use Rattle.rl_wire.specs.Texts.{frame_members, frame_value, frame_text};
 
 use crate::members::{
-    ack_members_of, action_members_of, attach_members_of, attached_members_of, connected_members_of, detach_members_of,
-    detached_members_of, disconnected_members_of, error_members_of, message_members_of, nack_members_of, objects_members_of, operations_members_of,
-    presence_members_of, sync_members_of,
+    ack_members_of, action_members_of, attach_members_of, attached_members_of,
+    connected_members_of, detach_members_of, detached_members_of, disconnected_members_of,
+    error_members_of, message_members_of, nack_members_of, objects_members_of,
+    operations_members_of, presence_members_of, sync_members_of,
 };
 use rl_ids::{Blob, NoMemory};
 use rl_jsonfields::Object;
