@@ -22,7 +22,6 @@ use Rattle.rl_jsonfields.proofs.Lengths.{bound, items_bound, members_bound, text
 use Rattle.rl_wireitems.specs.Items.{message_value, message_values, number_of, presence_with, presence_value, presence_values, sync_value, sync_values, values_at, id_at}
 use Rattle.rl_wireobj.specs.Operations.{op_json}
 use Rattle.rl_wireobj.specs.States.{state_json}
-use Rattle.rl_wireobj.specs.Sizes.{op_bytes, op_entries, state_bytes, state_cells}
 use Rattle.rl_wireobj.proofs.Lengths.{ops_length, states_length}
 use Rattle.rl_wire.specs.declared.details.ConnectionDetails.{ConnectionDetails}
 use Rattle.rl_wire.specs.Tables.{at_number}
