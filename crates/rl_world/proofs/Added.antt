@@ -80,10 +80,10 @@ few_items (item ∷ items) =
     omega (arith, split, own, few_items items)
 
 presence_filled : (conn serial now index : ℕ) (items : List PresenceItem) → sum_by presence_weight (filled_presence conn serial now index items) ≡ sum_by presence_weight items
-presence_filled site place conn serial now index [] = refl
-presence_filled site place conn serial now index (item ∷ items) =
+presence_filled conn serial now index [] = refl
+presence_filled conn serial now index (item ∷ items) =
     sum_by-cons presence_weight (record item { id = made_id conn serial index; conn = conn_text conn; stamp = now }) (filled_presence conn serial now (suc index) items)
-    ∙ ap (λ n. presence_weight item + n) (presence_filled site place conn serial now (suc index) items)
+    ∙ ap (λ n. presence_weight item + n) (presence_filled conn serial now (suc index) items)
     ∙ sym (sum_by-cons presence_weight item items)
 
 ops_filled : (site : List ℕ) (place index : ℕ) (ops : List ObjectOp) → sum_by op_weight (filled_ops site place index ops) ≡ sum_by op_weight ops
@@ -101,7 +101,10 @@ light_filled site place conn serial now (Messages items) small light =
     let filled = items_filled conn serial 0 items small (omega (arith, low, few)) in
     omega (arith, filled, low)
 light_filled site place conn serial now (Presence items) small light =
-    let same = presence_filled site place conn serial now 0 items in
+    let same = presence_filled conn serial now 0 items in
+    omega (arith, light, same)
+light_filled site place conn serial now (Objects ops) small light =
+    let same = ops_filled site place 0 ops in
     omega (arith, light, same)
 
 -- a body that adds an entry is not too long

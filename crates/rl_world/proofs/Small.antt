@@ -278,18 +278,18 @@ acted_small most _ name client low is small = more_small most (most + 0) client 
 -- a command that names this channel
 act_named : (most : ℕ) (command : Command) (name channel : List ℕ) (world : World) (client : Option Client) → most < 2 ^ 53 → IsSmallCommand command → IsChannelName channel → IsSmallWorld most world → HasSmallClient most world.channel client
     → IsSmallWorld (most + published_by (lines.Act name command)) (changed (act command) (record world { channel = named world.channel channel }) client)
-act_named most command name channel world None low is named small own = record {
-  name = named_well world.channel channel small.name named;
+act_named most command name channel world None low is naming small own = record {
+  name = named_well world.channel channel small.name naming;
   entries = small.entries;
-  client = more_client most (most + published_by (lines.Act name command)) (named world.channel channel) world.client (omega arith) (renamed most world.channel channel world.client small.name named small.client);
+  client = more_client most (most + published_by (lines.Act name command)) (named world.channel channel) world.client (omega arith) (renamed most world.channel channel world.client small.name naming small.client);
 }
-act_named most command name channel world (Some client) low is named small own =
+act_named most command name channel world (Some client) low is naming small own =
     let acted : IsSmallFor (most + published_by (lines.Act name command)) (act command client) =
     acted_small most command name client low is (record { given = own.given; bodies = own.bodies; few = own.few; each = own.each }) in
     record {
-      name = named_well world.channel channel small.name named;
+      name = named_well world.channel channel small.name naming;
       entries = small.entries;
-      client = record { given = acted.given; bodies = acted.bodies; few = acted.few; each = acted.each; named = named_then world.channel channel (act command client) small.name named };
+      client = record { given = acted.given; bodies = acted.bodies; few = acted.few; each = acted.each; named = named_then world.channel channel (act command client) small.name naming };
     }
 
 -- one that does nothing

@@ -99,10 +99,10 @@ fed_one world state old machine entries serial body given same is which_body put
 
 -- one more was fed behind the others
 pub fed_more : (state : WorldState) (world : World) (count first serial : ℕ) (body : Body) → serial ≡ first + count
-    → Shows state (record world { past = Put feed_conn serial body 0 ∷ feed count body first the_site world.past })
-    → Shows state (record world { past = feed (count + 1) body first the_site world.past })
+    → Shows state (record world { past = Put feed_conn serial body 0 ∷ feed count body first world.past })
+    → Shows state (record world { past = feed (count + 1) body first world.past })
 fed_more state world count first serial body same is =
-    subst (λ past. Shows state (record world { past = past })) (ap (λ n. Put feed_conn n body 0 ∷ feed count body first the_site world.past) same ∙ sym (feed_more count body first the_site world.past)) is
+    subst (λ past. Shows state (record world { past = past })) (ap (λ n. Put feed_conn n body 0 ∷ feed count body first world.past) same ∙ sym (feed_more count body first world.past)) is
 
 -- the four steps of a settle: the client is made ready, what it has sent is taken and served, and it gets what is
 -- there, where all of it can travel
