@@ -1,5 +1,5 @@
 -- What a step of the connection is for its channels (RTL3).
-use Rattle.std.specs.Prelude.{Bool, true, false, List, [], ◌∷◌, Option, Some, None, option_to_list}
+use Rattle.std.specs.Prelude.{Bool, true, false, Option, Some, None}
 use Rattle.rl_types.specs.declared.states.ConnState.{ConnState}
 use Rattle.rl_types.specs.declared.states.ConnState.TheVariants as conn
 use Rattle.rl_types.specs.declared.states.ChanState.{ChanState}
@@ -22,21 +22,17 @@ event_of before conn.Failed = Some event.ConnFailed
 -- everything else is nothing to a channel
 event_of before after = None
 
--- all events of a step, in order: that the link is gone is told first
-abbrev pub events_of : Bool → ConnState → ConnState → List ChanEvent
-events_of false before after = option_to_list (event_of before after)
-events_of true before after = event.LinkDown ∷ option_to_list (event_of before after)
+-- the state of a channel that is told what became of the connection
+abbrev pub after_event : Option ChanEvent → ChanState → ChanState
+after_event None state = state
+after_event (Some event) state = chan_table state event
 
 -- the state of a channel whose link is gone or not
 abbrev pub after_link : Bool → ChanState → ChanState
 after_link false state = state
 after_link true state = chan_table state event.LinkDown
 
--- the state after events, the first one first
-abbrev pub after_all : List ChanEvent → ChanState → ChanState
-after_all [] state = state
-after_all (one ∷ rest) state = after_all rest (chan_table state one)
-
--- the state of a channel after a step of the connection that loses the link or not
+-- the state after a step of the connection that loses the link or not. What became of the connection is told first:
+-- a channel that is detaching fails with its connection
 abbrev pub after_connection : Bool → ConnState → ConnState → ChanState → ChanState
-after_connection unlinked before after state = after_all (events_of unlinked before after) state
+after_connection unlinked before after state = after_link unlinked (after_event (event_of before after) state)

@@ -7,7 +7,7 @@ use rl_types::{ChanState, ConnState};
 
 /// The event that a step of the connection from one state to another is for each of its channels: it stands
 /// (RTL3d), or is suspended (RTL3c), closed (RTL3b) or failed (RTL3a), and was not so before. Other steps are
-/// nothing to a channel, but where they lose the link: [`ChanEvent::LinkDown`] is told first then.
+/// nothing to a channel, but where they lose the link: [`ChanEvent::LinkDown`] is told then.
 pub fn event_of(before: ConnState, after: ConnState) -> Option<ChanEvent>
     ensures { result ≡ steps.event_of before after }
 {
@@ -22,8 +22,9 @@ pub fn event_of(before: ConnState, after: ConnState) -> Option<ChanEvent>
     }
 }
 
-/// The state of a channel after a step of the connection: where the link is gone that is told first, then what the
-/// connection's new state is ([`event_of`]).
+/// The state of a channel after a step of the connection: what the connection's new state is ([`event_of`]) is told
+/// first, and then, where the link is gone, [`ChanEvent::LinkDown`]. So a channel that is DETACHING fails with its
+/// connection.
 pub fn after_connection(
     state: ChanState,
     unlinked: bool,
@@ -32,10 +33,16 @@ pub fn after_connection(
 ) -> ChanState
     ensures { result ≡ steps.after_connection unlinked before after state }
 {
-    let told = after_link(state, unlinked);
-    match event_of(before, after) {
-        Some(event) => chan_step(told, event),
-        None => told,
+    after_link(after_event(state, event_of(before, after)), unlinked)
+}
+
+// The state of a channel that is told what became of the connection.
+fn after_event(state: ChanState, event: Option<ChanEvent>) -> ChanState
+    ensures { result ≡ steps.after_event event state }
+{
+    match event {
+        Some(event) => chan_step(state, event),
+        None => state,
     }
 }
 

@@ -195,15 +195,15 @@ fn the_last_answer_that_is_owed_is_taken(rt: HostRuntime) {
 }
 
 #[test]
-fn a_lost_link_is_told_before_the_failure(rt: HostRuntime) {
+fn a_detaching_channel_fails_with_its_connection(rt: HostRuntime) {
     let (before, after) = (ConnState::Connected, ConnState::Failed);
     assert!(rt; event_of(before, after) == Some(ChanEvent::ConnFailed));
     assert_eq!(rt;
         state_name(after_connection(ChanState::Detaching, true, before, after)),
-        "DETACHED"
+        "FAILED"
     );
     assert_eq!(rt;
-        state_name(after_connection(ChanState::Detaching, false, before, after)),
-        "FAILED"
+        state_name(after_connection(ChanState::Detaching, true, before, ConnState::Disconnected)),
+        "DETACHED"
     );
 }

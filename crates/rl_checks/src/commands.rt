@@ -28,17 +28,25 @@ fn commands_are_copied(rt: HostRuntime) -> Result<(), NoMemory> {
 }
 
 #[test]
-fn lines_are_copied(rt: HostRuntime) -> Result<(), NoMemory> {
+fn recoveries_are_copied(rt: HostRuntime) -> Result<(), NoMemory> {
     let alloc = rt.alloc();
     assert!(rt; is_copied(alloc, &Line::Recover(word(alloc)?, word(alloc)?))?);
-    assert!(rt; is_copied(alloc, &Line::Poll(word(alloc)?, Some(2), word(alloc)?))?);
-    assert!(rt;
-        is_copied(
-            alloc,
-            &Line::FeedId(word(alloc)?, word(alloc)?, word(alloc)?)
-        )?
-    );
     assert!(rt; is_copied(alloc, &Line::Tick(3))?);
+    Ok(())
+}
+
+#[test]
+fn polls_are_copied(rt: HostRuntime) -> Result<(), NoMemory> {
+    let alloc = rt.alloc();
+    assert!(rt; is_copied(alloc, &Line::Poll(word(alloc)?, Some(2), word(alloc)?))?);
+    Ok(())
+}
+
+#[test]
+fn feeds_with_ids_are_copied(rt: HostRuntime) -> Result<(), NoMemory> {
+    let alloc = rt.alloc();
+    let line = Line::FeedId(word(alloc)?, word(alloc)?, word(alloc)?);
+    assert!(rt; is_copied(alloc, &line)?);
     Ok(())
 }
 

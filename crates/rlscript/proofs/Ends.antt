@@ -278,7 +278,7 @@ module _ (o : Outside) (status : ℕ) (world : Option WorldState) (bytes : List 
       ap status_of same ∙ ap (λ b. cond b 6 (status_by (script_of bytes))) fits ∙ ap status_by reads
 
   bytes_text : (said : Result (List Line) Refusal) → script_of bytes ≡ said → Tells o → IsToBeWritten true o (text_by said)
-  bytes_text said reads tells = inl (bytes, all_taken tells, ap text_by (sym reads))
+  bytes_text said reads tells = inl (bytes, all_taken tells, fits, ap text_by (sym reads))
 
   some_world : (script : List Line) (handed : Option WorldState) → IsWorldOf handed script → IsSome handed
   some_world script None is = absurd is

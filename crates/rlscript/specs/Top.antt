@@ -162,7 +162,7 @@ status_of bytes = if is_too_long bytes then 6 else status_by (script_of bytes)
 abbrev pub IsToBeWritten : Bool → Outside → List ℕ → Type 0
 IsToBeWritten false o text = text ≡ usage
 IsToBeWritten true o text =
-    ((bytes : List ℕ) × TookAll o bytes × (text ≡ text_by (script_of bytes)))
+    ((bytes : List ℕ) × TookAll o bytes × IsFalse (is_too_long bytes) × (text ≡ text_by (script_of bytes)))
     ⊎ ((SourceFailed o × (text ≡ read_fault)) ⊎ (TookTooMuch o × (text ≡ too_long)))
 
 -- how a call ends that is asked for a run, or is not, with this status and this world. What it says of bytes

@@ -3,7 +3,7 @@ ghost use Rattle.std.specs.Prelude.{◌≡◌, IfOk};
 ghost use Rattle.std.specs.Process.{exit_status};
 ghost use Rattle.rlscript.specs.Start.{words_after_name, args_ask_for_run, EndsProgram};
 
-use crate::top::{refuse_words, script_top};
+use crate::top::{ScriptEnd, refuse_words, script_top};
 use rl_outside::{Sink, Source};
 use std::alloc::{AllocError, Global};
 use std::env::Args;
@@ -14,6 +14,13 @@ fn words_after_name(alloc: Global, args: Args) -> Result<Vec<String>, AllocError
     ensures { IfOk result (λ words. words.items ≡ words_after_name args) }
 {
     args.skip(1).collect(alloc)
+}
+
+// The status alone; the world is let go.
+fn status_of(end: ScriptEnd) -> u8
+    ensures { result ≡ end.status }
+{
+    end.status
 }
 
 fn status_by<S: Source, K: Sink>(
@@ -41,7 +48,7 @@ fn status_by<S: Source, K: Sink>(
         return refuse_words(out);
     };
     match words_after_name(alloc, args) {
-        Ok(words) => script_top(alloc, &words, src, out).status,
+        Ok(words) => status_of(script_top(alloc, &words, src, out)),
         Err(AllocError) => 7,
     }
 }
