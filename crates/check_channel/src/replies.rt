@@ -79,6 +79,10 @@ fn push_entry(alloc: Global, text: &mut String, entry: &Entry) -> Result<()> {
     match &entry.body {
         Body::Messages(items) => push_messages(text, items),
         Body::Presence(items) => push_items(alloc, text, items),
+        Body::Objects(ops) => {
+            text.push_str(format!(in alloc; " objects {}", ops.len())?.as_str())?;
+            Ok(())
+        }
     }
 }
 
@@ -138,6 +142,12 @@ pub fn reply_text(alloc: Global, reply: &ChannelReply) -> Result<String> {
             Ok(format!(in alloc; "notretained {}", first.0)?)
         }
         ChannelReply::Members { items, last, head } => members_text(alloc, items, *last, head.0),
+        ChannelReply::Objects { states, last, head } => Ok(format!(in alloc;
+            "objects {}{} head {}",
+            states.len(),
+            flag(" last", *last),
+            head.0
+        )?),
         ChannelReply::Gone(Some(place)) => Ok(format!(in alloc; "gone {}", place.0)?),
         ChannelReply::Gone(None) => Ok(String::from_str(alloc, "gone none")?),
         ChannelReply::Ticked => Ok(String::from_str(alloc, "ticked")?),

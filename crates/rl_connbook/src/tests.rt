@@ -90,11 +90,65 @@ fn replies(alloc: Global, events: Vec<BookEvent>) -> Result<Vec<BookReply>, NoMe
     Ok(replies)
 }
 
+// Whether two answers are the same.
+fn is_same(one: &BookReply, other: &BookReply) -> bool {
+    match (one, other) {
+        (
+            BookReply::Opened {
+                conn,
+                generation,
+                key,
+            },
+            BookReply::Opened {
+                conn: other_conn,
+                generation: other_generation,
+                key: other_key,
+            },
+        ) => conn == other_conn && generation == other_generation && key == other_key,
+        (
+            BookReply::Resumed { conn, generation },
+            BookReply::Resumed {
+                conn: other_conn,
+                generation: other_generation,
+            },
+        ) => conn == other_conn && generation == other_generation,
+        (
+            BookReply::SerialGap { got, expected },
+            BookReply::SerialGap {
+                got: other_got,
+                expected: other_expected,
+            },
+        ) => got == other_got && expected == other_expected,
+        (
+            BookReply::SerialOld { got, expected },
+            BookReply::SerialOld {
+                got: other_got,
+                expected: other_expected,
+            },
+        ) => got == other_got && expected == other_expected,
+        (BookReply::Superseded { newer }, BookReply::Superseded { newer: other_newer }) => {
+            newer == other_newer
+        }
+        (BookReply::Known(outcome), BookReply::Known(other_outcome)) => outcome == other_outcome,
+        (BookReply::Expired(conns), BookReply::Expired(other_conns)) => {
+            conns.as_slice() == other_conns.as_slice()
+        }
+        (BookReply::Go, BookReply::Go)
+        | (BookReply::Done, BookReply::Done)
+        | (BookReply::NoRecord, BookReply::NoRecord) => true,
+        _ => false,
+    }
+}
+
 #[test]
 fn a_connection_goes_through_all_kinds_of_events(rt: HostRuntime) -> Result<(), Fail> {
     let alloc = rt.alloc();
     let got = replies(alloc, events(alloc)?)?;
-    assert_eq!(rt; got.as_slice(), wanted(alloc)?.as_slice());
+    let wanted = wanted(alloc)?;
+    assert_eq!(rt; got.len(), wanted.len());
+    for (one, other) in got.iter().zip(wanted.iter()) {
+        assert!(rt; is_same(one, other));
+    }
     Ok(())
 }
 
@@ -109,6 +163,6 @@ fn a_book_gives_the_numbers_of_its_range(rt: HostRuntime) -> Result<(), Fail> {
         generation: 1,
         key: Text::from_str(alloc, "c00200001!0000000000000007")?,
     };
-    assert_eq!(rt; got, wanted);
+    assert!(rt; is_same(&got, &wanted));
     Ok(())
 }
