@@ -96,7 +96,7 @@ fn object_ids_are_read_and_written(rt: HostRuntime) -> Result<(), NoMemory> {
         match read_object_id(text) {
             None => assert!(rt; !is, "{text}"),
             Some(id) => {
-                assert!(rt; is, "{text}");
+                assert!(rt; is);
                 assert_eq!(rt; write_object_id(rt.alloc(), &id)?.as_str(), text);
                 assert_eq!(rt; object_id_len(&id), text.len() as u64);
                 assert_eq!(rt; format!(in rt.alloc(); "{id}")?.as_str(), text);
