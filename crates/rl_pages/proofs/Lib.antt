@@ -1,0 +1,5 @@
+pub mod Computed
+pub mod Ends
+pub mod Lasts
+pub mod Sequenced
+pub mod Stands

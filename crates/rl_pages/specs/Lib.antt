@@ -1,0 +1,5 @@
+pub mod Examples
+pub mod Frames
+pub mod History
+pub mod Pages
+pub mod State

@@ -1,0 +1,12 @@
+//! The pages of a session's sync: which page of members or objects is asked for next, in which frame it is sent,
+//! and when the sync ends (RTP18, RTO5; the rule of the end is this project's own).
+#![tactic(auto)]
+
+mod frames;
+pub mod laws;
+mod pages;
+mod progress;
+#[cfg(test)]
+mod tests;
+
+pub use pages::Pages;
