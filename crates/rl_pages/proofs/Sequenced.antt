@@ -1,7 +1,7 @@
 -- One page more.
-use Rattle.std.proofs.Common.{◌≡◌, ℕ, ◌+◌, ◌-◌, ◌^◌, ◌≤◌, List, [], ◌∷◌, ◌++◌, length, map, refl, sym, ◌∙◌, ap, arith, true, false}
-use Rattle.std.specs.Prelude.{Bool, ◌&&◌, ◌||◌, not, nat_le, min, max, Option, Some, None}
-use Rattle.std.specs.List.{flat_map, last_or, list_all, list_any}
+use Rattle.std.proofs.Common.{◌≡◌, ℕ, ◌+◌, ◌-◌, ◌^◌, List, [], ◌∷◌, ◌++◌, length, map, refl, ◌∙◌, ap, arith, true, false}
+use Rattle.std.specs.Prelude.{Bool, ◌&&◌, ◌||◌, not, nat_le, min, max, None}
+use Rattle.std.specs.List.{flat_map, last_or}
 use Rattle.std.proofs.lemmas.List.{map-append, append-nil, length-append}
 use Rattle.std.proofs.lemmas.List.Folds.{list_any-append}
 use Rattle.std.proofs.lemmas.Grind.{flat_map-append}

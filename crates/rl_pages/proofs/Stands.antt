@@ -1,7 +1,7 @@
 -- What is kept of the pages is what all of them say.
-use Rattle.std.proofs.Common.{◌≡◌, ℕ, ◌+◌, ◌-◌, ◌^◌, List, [], ◌∷◌, ◌++◌, length, map, reverse, refl, sym, ◌∙◌, ap, arith, true, false}
-use Rattle.std.specs.Prelude.{Bool, ◌&&◌, ◌||◌, not, nat_le, min, Option, Some, None}
-use Rattle.std.specs.List.{filter_map, last_or}
+use Rattle.std.proofs.Common.{◌≡◌, ℕ, ◌+◌, ◌-◌, ◌^◌, List, [], ◌∷◌, ◌++◌, length, map, reverse, refl, ◌∙◌, ap, arith, true, false}
+use Rattle.std.specs.Prelude.{Bool, ◌&&◌, ◌||◌, not, min, Option, Some, None}
+use Rattle.std.specs.List.{filter_map}
 use Rattle.std.proofs.lemmas.List.{append-nil, reverse-append}
 use Rattle.std.proofs.lemmas.List.Elements.{filter_map-append}
 use Rattle.rl_ids.specs.declared.members.MemberKey.{MemberKey}
@@ -10,10 +10,10 @@ use Rattle.rl_types.specs.declared.channel.ChannelReply.{ChannelReply}
 use Rattle.rl_types.specs.declared.channel.ChannelReply.TheVariants.{Put, Joined, Read, Members, Objects, Gone, Ticked, Census}
 use Rattle.rl_types.specs.declared.objects.ObjectState.{ObjectState}
 use Rattle.rl_types.specs.declared.presence.PresenceItem.{PresenceItem}
-use Rattle.rl_pages.specs.Pages.{Page, cursor_after, are_there, are_reached, greatest_head}
+use Rattle.rl_pages.specs.Pages.{Page, cursor_after, are_there, are_reached}
 use Rattle.rl_pages.specs.Frames.{page_at, member_frame, object_frame}
 use Rattle.rl_pages.specs.State.{Sequences, page_absorbed, ended, next_event, page_frame, may_end, member_key, object_id}
-use Rattle.rl_pages.specs.History.{Asked, Step, Absorbs, Ends, member_page, object_page, member_pages, object_pages, have_ended, all_there, after, wanted_page, frame_of, ends_at, number_after, StandsForPages, BeginsPastTheLast}
+use Rattle.rl_pages.specs.History.{Asked, Step, Absorbs, Ends, member_page, object_page, member_pages, object_pages, have_ended, all_there, after, frame_of, ends_at, number_after, StandsForPages, BeginsPastTheLast}
 use Rattle.rl_pages.proofs.Sequenced.{cursor_more, progress_of, progress_more, reached}
 
 -- WHAT IS KEPT, BY THE PAGES

@@ -1,8 +1,7 @@
 -- A session with 65 members and 5 objects, and one without either: what is asked for, what is sent and when the end may
 -- be.
-use Rattle.std.specs.Prelude.{ℕ, ◌≡◌, Bool, true, false, List, [], ◌∷◌, Option, Some, None, codes}
+use Rattle.std.specs.Prelude.{ℕ, ◌≡◌, true, false, List, [], ◌∷◌, Some, None, codes}
 use Rattle.rl_ids.specs.declared.members.MemberKey.{MemberKey}
-use Rattle.rl_ids.specs.declared.objects.ObjectId.{ObjectId}
 use Rattle.rl_ids.specs.declared.objects.ObjectId.TheVariants.{Root}
 use Rattle.rl_types.specs.declared.channel.ChannelEvent.TheVariants.{MemberPage, ObjectPage}
 use Rattle.rl_types.specs.declared.channel.ChannelReply.{ChannelReply}
@@ -12,8 +11,8 @@ use Rattle.rl_types.specs.declared.objects.ObjectState.{ObjectState}
 use Rattle.rl_types.specs.declared.objects.ObjectBody.TheVariants.{Map}
 use Rattle.rl_types.specs.declared.presence.PresenceItem.{PresenceItem}
 use Rattle.rl_types.specs.declared.presence.PresenceAction.TheVariants.{Present}
-use Rattle.rl_pages.specs.History.{Asked, Step, Absorbs, Ends, after, ends_sent, frame_of, ends_at}
-use Rattle.rl_pages.specs.State.{Sequences, next_event, page_frame, may_end, end_frames}
+use Rattle.rl_pages.specs.History.{Asked, Step, Absorbs, Ends, after, ends_sent}
+use Rattle.rl_pages.specs.State.{next_event, page_frame, may_end}
 
 -- THE PAGES
 

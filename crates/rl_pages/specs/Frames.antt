@@ -1,5 +1,5 @@
 -- The frames of pages: SYNC for members (RTP18) and OBJECT_SYNC for objects (RTO5).
-use Rattle.std.specs.Prelude.{ℕ, List, [], Option, Some}
+use Rattle.std.specs.Prelude.{ℕ, List, [], Some}
 use Rattle.std.specs.Fmt.{decimal}
 use Rattle.rl_types.specs.declared.frames.Cursor.{Cursor}
 use Rattle.rl_types.specs.declared.frames.Frame.{Frame}
