@@ -33,40 +33,42 @@ greatest_more (m ∷ ns) n =
 both_at_most : (a b position : ℕ) → nat_le (max a b) position ≡ (nat_le a position && nat_le b position)
 both_at_most a b position = grind arith
 
-pub reached : {Key : Type 0} (position : ℕ) (pages : List (Page Key)) → nat_le (greatest_head pages) position ≡ are_reached position pages
+pub reached : {Item : Type 0} (position : ℕ) (pages : List (Page Item)) → nat_le (greatest_head pages) position ≡ are_reached position pages
 reached position [] = grind arith
 reached position (page ∷ pages) =
     both_at_most page.head (greatest_head pages) position ∙ ap (λ (b : Bool). nat_le page.head position && b) (reached position pages)
 
 -- WHERE THE NEXT PAGE BEGINS
 
-pub cursor_more : {Key : Type 0} (pages : List (Page Key)) (page : Page Key) → cursor_after (pages ++ page ∷ []) ≡ last_or (cursor_after pages) page.keys
-cursor_more {Key} pages page =
-    let keys = λ (one : Page Key). one.keys in
-    ap (last_or None) (flat_map-append keys pages (page ∷ []) ∙ ap (λ (more : List Key). flat_map keys pages ++ more) (append-nil page.keys))
-    ∙ last_append None (flat_map keys pages) page.keys
+pub cursor_more : {Item Key : Type 0} (key : Item → Key) (pages : List (Page Item)) (page : Page Item)
+    → cursor_after key (pages ++ page ∷ []) ≡ last_or (cursor_after key pages) (map key page.items)
+cursor_more {Item} {Key} key pages page =
+    let items = λ (one : Page Item). one.items in
+    ap (λ (all : List Item). last_or None (map key all)) (flat_map-append items pages (page ∷ []) ∙ ap (λ (more : List Item). flat_map items pages ++ more) (append-nil page.items))
+    ∙ ap (last_or None) (map-append key (flat_map items pages) page.items)
+    ∙ last_append None (map key (flat_map items pages)) (map key page.items)
 
 -- WHAT IS KEPT OF THE PAGES OF A KIND
 
-module _ {Key : Type 0} where
-  abbrev pub progress_of : Bool → List (Page Key) → Progress
+module _ {Item : Type 0} where
+  abbrev pub progress_of : Bool → List (Page Item) → Progress
   progress_of asked pages = record { asked = asked; count = min (length pages) (2 ^ 64 - 1); done = are_there asked pages; head = greatest_head pages }
 
-count_more : {Key : Type 0} (pages : List (Page Key)) (page : Page Key) → min (length (pages ++ page ∷ [])) (2 ^ 64 - 1) ≡ min (min (length pages) (2 ^ 64 - 1) + 1) (2 ^ 64 - 1)
+count_more : {Item : Type 0} (pages : List (Page Item)) (page : Page Item) → min (length (pages ++ page ∷ [])) (2 ^ 64 - 1) ≡ min (min (length pages) (2 ^ 64 - 1) + 1) (2 ^ 64 - 1)
 count_more pages page =
     let e : length (pages ++ page ∷ []) ≡ length pages + 1 = length-append pages (page ∷ []) in
     rw e (omega arith)
 
-there_more : {Key : Type 0} (asked : Bool) (pages : List (Page Key)) (page : Page Key) → are_there asked (pages ++ page ∷ []) ≡ (are_there asked pages || page.last)
-there_more {Key} asked pages page =
-    ap (λ (b : Bool). not asked || b) (list_any-append (λ (one : Page Key). one.last) pages (page ∷ [])) ∙ or_more (not asked) (are_whole pages) page.last
+there_more : {Item : Type 0} (asked : Bool) (pages : List (Page Item)) (page : Page Item) → are_there asked (pages ++ page ∷ []) ≡ (are_there asked pages || page.last)
+there_more {Item} asked pages page =
+    ap (λ (b : Bool). not asked || b) (list_any-append (λ (one : Page Item). one.last) pages (page ∷ [])) ∙ or_more (not asked) (are_whole pages) page.last
 
-head_more : {Key : Type 0} (pages : List (Page Key)) (page : Page Key) → greatest_head (pages ++ page ∷ []) ≡ max (greatest_head pages) page.head
-head_more {Key} pages page =
-    let heads = λ (one : Page Key). one.head in
+head_more : {Item : Type 0} (pages : List (Page Item)) (page : Page Item) → greatest_head (pages ++ page ∷ []) ≡ max (greatest_head pages) page.head
+head_more {Item} pages page =
+    let heads = λ (one : Page Item). one.head in
     ap greatest (map-append heads pages (page ∷ [])) ∙ greatest_more (map heads pages) page.head
 
-pub progress_more : {Key : Type 0} (asked : Bool) (pages : List (Page Key)) (page : Page Key) → progress_of asked (pages ++ page ∷ []) ≡ with_page page.last page.head (progress_of asked pages)
+pub progress_more : {Item : Type 0} (asked : Bool) (pages : List (Page Item)) (page : Page Item) → progress_of asked (pages ++ page ∷ []) ≡ with_page page.last page.head (progress_of asked pages)
 progress_more asked pages page =
     let count = count_more pages page in
     let there = there_more asked pages page in

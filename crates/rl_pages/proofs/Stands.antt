@@ -18,14 +18,14 @@ use Rattle.rl_pages.proofs.Sequenced.{cursor_more, progress_of, progress_more, r
 
 -- WHAT IS KEPT, BY THE PAGES
 
-abbrev pub kept_of : Asked → List (Page MemberKey) → List (Page ObjectId) → Bool → Sequences
+abbrev pub kept_of : Asked → List (Page PresenceItem) → List (Page ObjectState) → Bool → Sequences
 kept_of asked members objects over = record {
   channel = asked.channel;
   sequence = asked.sequence;
   members = progress_of asked.presence members;
-  after_member = cursor_after members;
+  after_member = cursor_after member_key members;
   objects = progress_of asked.objects objects;
-  after_object = cursor_after objects;
+  after_object = cursor_after object_id objects;
   ended = not (asked.presence || asked.objects) || over;
 }
 
@@ -51,22 +51,22 @@ one_of f latest before page one = latest_of f latest before ∙ rw one refl
 
 -- ONE STEP MORE
 
-takes_members : (asked : Asked) (members : List (Page MemberKey)) (objects : List (Page ObjectId)) (over : Bool) (items : List PresenceItem) (last : Bool) (head : ℕ)
+takes_members : (asked : Asked) (members : List (Page PresenceItem)) (objects : List (Page ObjectState)) (over : Bool) (items : List PresenceItem) (last : Bool) (head : ℕ)
     → page_absorbed (Members items last head) (kept_of asked members objects over)
-    ≡ kept_of asked (members ++ record { keys = map member_key items; last = last; head = head } ∷ []) objects over
+    ≡ kept_of asked (members ++ record { items = items; last = last; head = head } ∷ []) objects over
 takes_members asked members objects over items last head =
-    let page : Page MemberKey = record { keys = map member_key items; last = last; head = head } in
+    let page : Page PresenceItem = record { items = items; last = last; head = head } in
     let progress = progress_more asked.presence members page in
-    let cursor = cursor_more members page in
+    let cursor = cursor_more member_key members page in
     rw (progress, cursor) refl
 
-takes_objects : (asked : Asked) (members : List (Page MemberKey)) (objects : List (Page ObjectId)) (over : Bool) (states : List ObjectState) (last : Bool) (head : ℕ)
+takes_objects : (asked : Asked) (members : List (Page PresenceItem)) (objects : List (Page ObjectState)) (over : Bool) (states : List ObjectState) (last : Bool) (head : ℕ)
     → page_absorbed (Objects states last head) (kept_of asked members objects over)
-    ≡ kept_of asked members (objects ++ record { keys = map object_id states; last = last; head = head } ∷ []) over
+    ≡ kept_of asked members (objects ++ record { items = states; last = last; head = head } ∷ []) over
 takes_objects asked members objects over states last head =
-    let page : Page ObjectId = record { keys = map object_id states; last = last; head = head } in
+    let page : Page ObjectState = record { items = states; last = last; head = head } in
     let progress = progress_more asked.objects objects page in
-    let cursor = cursor_more objects page in
+    let cursor = cursor_more object_id objects page in
     rw (progress, cursor) refl
 
 ends_more : (none over there : Bool) → ((none || over) || (not (none || over) && there)) ≡ (none || (over || there))
@@ -75,14 +75,14 @@ ends_more false true there = refl
 ends_more false false true = refl
 ends_more false false false = refl
 
-takes_end : (asked : Asked) (members : List (Page MemberKey)) (objects : List (Page ObjectId)) (over : Bool)
+takes_end : (asked : Asked) (members : List (Page PresenceItem)) (objects : List (Page ObjectState)) (over : Bool)
     → ended (kept_of asked members objects over) ≡ kept_of asked members objects (over || (are_there asked.presence members && are_there asked.objects objects))
 takes_end asked members objects over =
     let e = ends_more (not (asked.presence || asked.objects)) over (are_there asked.presence members && are_there asked.objects objects) in
     ap (λ (b : Bool). record (kept_of asked members objects over) { ended = b }) e
 
 -- the pages stay where a step brings none
-stays : (asked : Asked) (members more_members : List (Page MemberKey)) (objects more_objects : List (Page ObjectId)) (over : Bool)
+stays : (asked : Asked) (members more_members : List (Page PresenceItem)) (objects more_objects : List (Page ObjectState)) (over : Bool)
     → more_members ≡ members → more_objects ≡ objects → kept_of asked members objects over ≡ kept_of asked more_members more_objects over
 stays asked members more_members objects more_objects over is_members is_objects = rw (is_members, is_objects) refl
 
@@ -114,14 +114,14 @@ stands asked (Absorbs (Members items last head) ∷ before) =
     ap (page_absorbed (Members items last head)) (stands asked before)
     ∙ takes_members asked (member_pages before) (object_pages before) (have_ended asked before) items last head
     ∙ stays asked _ (member_pages (Absorbs (Members items last head) ∷ before)) (object_pages before) (object_pages (Absorbs (Members items last head) ∷ before)) (have_ended asked before)
-    (one_of member_page (Absorbs (Members items last head)) before (record { keys = map member_key items; last = last; head = head }) refl)
+    (one_of member_page (Absorbs (Members items last head)) before (record { items = items; last = last; head = head }) refl)
     (none_of object_page (Absorbs (Members items last head)) before refl)
 stands asked (Absorbs (Objects states last head) ∷ before) =
     ap (page_absorbed (Objects states last head)) (stands asked before)
     ∙ takes_objects asked (member_pages before) (object_pages before) (have_ended asked before) states last head
     ∙ stays asked (member_pages before) (member_pages (Absorbs (Objects states last head) ∷ before)) _ (object_pages (Absorbs (Objects states last head) ∷ before)) (have_ended asked before)
     (none_of member_page (Absorbs (Objects states last head)) before refl)
-    (one_of object_page (Absorbs (Objects states last head)) before (record { keys = map object_id states; last = last; head = head }) refl)
+    (one_of object_page (Absorbs (Objects states last head)) before (record { items = states; last = last; head = head }) refl)
 stands asked (Absorbs (Put verdict) ∷ before) = passes_over asked (Put verdict) before (stands asked before) refl refl
 stands asked (Absorbs (Joined serial resumed presence objects) ∷ before) = passes_over asked (Joined serial resumed presence objects) before (stands asked before) refl refl
 stands asked (Absorbs (Read reply) ∷ before) = passes_over asked (Read reply) before (stands asked before) refl refl
@@ -136,7 +136,7 @@ stands asked (Ends ∷ before) =
 
 -- LAWS
 
-number_is : {Key : Type 0} (pages : List (Page Key)) → min (min (length pages) (2 ^ 64 - 1) + 1) (2 ^ 64 - 1) ≡ number_after pages
+number_is : {Item : Type 0} (pages : List (Page Item)) → min (min (length pages) (2 ^ 64 - 1) + 1) (2 ^ 64 - 1) ≡ number_after pages
 number_is pages = omega arith
 
 frame_is : (asked : Asked) (steps : List Step) (reply : ChannelReply) → page_frame reply (kept asked steps) ≡ frame_of asked steps reply
@@ -169,5 +169,5 @@ stands_for_pages =
       end = λ asked steps position. ap (may_end position) (stands asked steps) ∙ may asked steps position;
     }
 
-pub begins_past_the_last : {Key : Type 0} → BeginsPastTheLast Key
-begins_past_the_last = record { first = refl; next = cursor_more }
+pub begins_past_the_last : {Item Key : Type 0} → BeginsPastTheLast Item Key
+begins_past_the_last = record { first = λ key. refl; next = cursor_more }

@@ -2,14 +2,14 @@
 -- stands first.
 use Rattle.std.specs.Prelude.{ℕ, ◌+◌, ◌-◌, ◌^◌, ◌≡◌, min, Bool, true, false, not, ◌&&◌, ◌||◌, if◌then◌else◌, List, [], ◌∷◌, ◌++◌, length, map, reverse, Option, Some, None}
 use Rattle.std.specs.List.{filter_map, last_or}
-use Rattle.rl_ids.specs.declared.members.MemberKey.{MemberKey}
-use Rattle.rl_ids.specs.declared.objects.ObjectId.{ObjectId}
 use Rattle.rl_numbers.specs.declared.limits.TheConstants.{PAGE_MEMBERS, PAGE_OBJECTS}
 use Rattle.rl_types.specs.declared.channel.ChannelEvent.{ChannelEvent}
 use Rattle.rl_types.specs.declared.channel.ChannelEvent.TheVariants.{MemberPage, ObjectPage}
 use Rattle.rl_types.specs.declared.channel.ChannelReply.{ChannelReply}
 use Rattle.rl_types.specs.declared.channel.ChannelReply.TheVariants.{Members, Objects}
 use Rattle.rl_types.specs.declared.frames.Frame.{Frame}
+use Rattle.rl_types.specs.declared.objects.ObjectState.{ObjectState}
+use Rattle.rl_types.specs.declared.presence.PresenceItem.{PresenceItem}
 use Rattle.rl_pages.specs.Frames.{page_at, member_frame, object_frame}
 use Rattle.rl_pages.specs.Pages.{Page, cursor_after, are_reached, are_there}
 use Rattle.rl_pages.specs.State.{Sequences, new_pages, next_event, page_frame, page_absorbed, member_key, object_id, may_end, end_pages, end_frames, ended}
@@ -27,18 +27,18 @@ pub record Asked : Type 0 where
 
 -- THE PAGES THAT CAME, in the order in which they came
 
-abbrev pub member_page : Step → Option (Page MemberKey)
-member_page (Absorbs (Members items last head)) = Some (record { keys = map member_key items; last = last; head = head })
+abbrev pub member_page : Step → Option (Page PresenceItem)
+member_page (Absorbs (Members items last head)) = Some (record { items = items; last = last; head = head })
 member_page step = None
 
-abbrev pub object_page : Step → Option (Page ObjectId)
-object_page (Absorbs (Objects states last head)) = Some (record { keys = map object_id states; last = last; head = head })
+abbrev pub object_page : Step → Option (Page ObjectState)
+object_page (Absorbs (Objects states last head)) = Some (record { items = states; last = last; head = head })
 object_page step = None
 
-abbrev pub member_pages : List Step → List (Page MemberKey)
+abbrev pub member_pages : List Step → List (Page PresenceItem)
 member_pages steps = filter_map member_page (reverse steps)
 
-abbrev pub object_pages : List Step → List (Page ObjectId)
+abbrev pub object_pages : List Step → List (Page ObjectState)
 object_pages steps = filter_map object_page (reverse steps)
 
 -- WHAT THEY SAY
@@ -46,13 +46,13 @@ object_pages steps = filter_map object_page (reverse steps)
 -- the page that is wanted next: each page of the members comes before those of the objects
 abbrev pub wanted_page : Asked → List Step → Option ChannelEvent
 wanted_page asked steps =
-    if not (are_there asked.presence (member_pages steps)) then Some (MemberPage (cursor_after (member_pages steps)) PAGE_MEMBERS)
-    else if not (are_there asked.objects (object_pages steps)) then Some (ObjectPage (cursor_after (object_pages steps)) PAGE_OBJECTS)
+    if not (are_there asked.presence (member_pages steps)) then Some (MemberPage (cursor_after member_key (member_pages steps)) PAGE_MEMBERS)
+    else if not (are_there asked.objects (object_pages steps)) then Some (ObjectPage (cursor_after object_id (object_pages steps)) PAGE_OBJECTS)
     else None
 
 -- the number of the page after these. It stands still at its type's end
-module _ {Key : Type 0} where
-  abbrev pub number_after : List (Page Key) → ℕ
+module _ {Item : Type 0} where
+  abbrev pub number_after : List (Page Item) → ℕ
   number_after pages = min (length pages + 1) (2 ^ 64 - 1)
 
 -- the frame in which the page of this reply is sent
@@ -107,9 +107,10 @@ pub record StandsForPages : Type 0 where
 
 -- the first page of a kind has no cursor, and each other one begins past the last key of the page before; where that one
 -- shows nothing, where it began itself
-pub record BeginsPastTheLast (Key : Type 0) : Type 0 where
-  pub first : cursor_after {Key = Key} [] ≡ None
-  pub next : (pages : List (Page Key)) (page : Page Key) → cursor_after (pages ++ page ∷ []) ≡ last_or (cursor_after pages) page.keys
+pub record BeginsPastTheLast (Item Key : Type 0) : Type 0 where
+  pub first : (key : Item → Key) → cursor_after key [] ≡ None
+  pub next : (key : Item → Key) (pages : List (Page Item)) (page : Page Item)
+      → cursor_after key (pages ++ page ∷ []) ≡ last_or (cursor_after key pages) (map key page.items)
 
 -- the end pages are sent at most once, and only after each page that was asked for came
 pub record EndsOnce : Type 0 where

@@ -2,10 +2,10 @@
 use Rattle.std.specs.Prelude.{ℕ, Bool, ◌||◌, not, nat_le, List, [], ◌∷◌, map, max, Option, None}
 use Rattle.std.specs.List.{flat_map, last_or, list_all, list_any}
 
--- a page of one kind, with the keys of members or the ids of objects as keys
-pub record Page (Key : Type 0) : Type 0 where
-  pub keys : List Key  -- of what it shows, in order
-  pub last : Bool  -- none remain after it
+-- a page of one kind
+pub record Page (Item : Type 0) : Type 0 where
+  pub items : List Item  -- members or objects, in order
+  pub last : Bool  -- none remain after them
   pub head : ℕ  -- the place of the channel's last entry when it was made
 
 -- the greatest of numbers, and 0 where there is none
@@ -14,23 +14,23 @@ greatest [] = 0
 greatest (number ∷ numbers) = max number (greatest numbers)
 
 -- THE PAGES OF ONE KIND SO FAR, in the order in which they came
-module _ {Key : Type 0} where
-  -- the key past which the next page begins: the last one that they show; none where they show none
-  abbrev pub cursor_after : List (Page Key) → Option Key
-  cursor_after pages = last_or None (flat_map (λ (page : Page Key). page.keys) pages)
+module _ {Item : Type 0} where
+  -- the key past which the next page begins: that of the last item that they show; none where they show none
+  abbrev pub cursor_after : {Key : Type 0} → (Item → Key) → List (Page Item) → Option Key
+  cursor_after key pages = last_or None (map key (flat_map (λ (page : Page Item). page.items) pages))
 
   -- the last page is there: one says that none remain
-  abbrev pub are_whole : List (Page Key) → Bool
-  are_whole pages = list_any (λ (page : Page Key). page.last) pages
+  abbrev pub are_whole : List (Page Item) → Bool
+  are_whole pages = list_any (λ (page : Page Item). page.last) pages
 
   -- the same where they were asked for; where they were not, none is missing
-  abbrev pub are_there : Bool → List (Page Key) → Bool
+  abbrev pub are_there : Bool → List (Page Item) → Bool
   are_there asked pages = not asked || are_whole pages
 
   -- the position is at least each head at which they were made
-  abbrev pub are_reached : ℕ → List (Page Key) → Bool
-  are_reached position pages = list_all (λ (page : Page Key). nat_le page.head position) pages
+  abbrev pub are_reached : ℕ → List (Page Item) → Bool
+  are_reached position pages = list_all (λ (page : Page Item). nat_le page.head position) pages
 
   -- the greatest head at which they were made
-  abbrev pub greatest_head : List (Page Key) → ℕ
-  greatest_head pages = greatest (map (λ (page : Page Key). page.head) pages)
+  abbrev pub greatest_head : List (Page Item) → ℕ
+  greatest_head pages = greatest (map (λ (page : Page Item). page.head) pages)

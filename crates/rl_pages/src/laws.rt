@@ -1,6 +1,8 @@
 //! Laws over the definitions alone. Each is a function that does nothing: its contract is the law.
 ghost use Rattle.rl_ids.specs.declared.members.MemberKey.{MemberKey};
 ghost use Rattle.rl_ids.specs.declared.objects.ObjectId.{ObjectId};
+ghost use Rattle.rl_types.specs.declared.objects.ObjectState.{ObjectState};
+ghost use Rattle.rl_types.specs.declared.presence.PresenceItem.{PresenceItem};
 ghost use Rattle.rl_pages.specs.Examples.{ShowsBoth, ShowsLess};
 ghost use Rattle.rl_pages.specs.History.{BeginsPastTheLast, EndsForGood, EndsOnce, StandsForPages};
 
@@ -16,8 +18,8 @@ pub fn stands_for_pages()
 /// the next one begins where that one did.
 #[tactic(auto, using(crate::proofs::Stands::begins_past_the_last))]
 pub fn begins_past_the_last()
-    ensures members { BeginsPastTheLast MemberKey }
-    ensures objects { BeginsPastTheLast ObjectId }
+    ensures members { BeginsPastTheLast PresenceItem MemberKey }
+    ensures objects { BeginsPastTheLast ObjectState ObjectId }
 {}
 
 /// The end pages are sent once, however often the end is asked for, and only after each page that was asked for came.
