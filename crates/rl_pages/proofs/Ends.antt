@@ -11,7 +11,7 @@ use Rattle.rl_pages.proofs.Stands.{stands}
 
 -- ONCE
 
-once_more : (presence objects over there : Bool) (members others : List Frame)
+pub once_more : (presence objects over there : Bool) (members others : List Frame)
     → ((if over then ((if presence then members else []) ++ (if objects then others else [])) else [])
     ++ (if (not (not (presence || objects) || over) && there) then ((if presence then members else []) ++ (if objects then others else [])) else []))
     ≡ (if (over || there) then ((if presence then members else []) ++ (if objects then others else [])) else [])
@@ -37,7 +37,7 @@ once asked (Ends ∷ before) =
 -- AFTER ALL OTHERS
 
 -- what all pages say, by what is kept
-there_is : (asked : Asked) (steps : List Step) → all_there asked steps ≡ ((after asked steps).members.done && (after asked steps).objects.done)
+pub there_is : (asked : Asked) (steps : List Step) → all_there asked steps ≡ ((after asked steps).members.done && (after asked steps).objects.done)
 there_is asked steps = ap (λ (pages : Sequences). pages.members.done && pages.objects.done) (sym (stands asked steps))
 
 both_stay : (members objects last : Bool) → (members && objects) ≡ true → ((members || last) && objects) ≡ true

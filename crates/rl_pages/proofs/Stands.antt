@@ -1,11 +1,9 @@
 -- What is kept of the pages is what all of them say.
-use Rattle.std.proofs.Common.{◌≡◌, ℕ, ◌+◌, ◌-◌, ◌^◌, List, [], ◌∷◌, ◌++◌, length, map, reverse, refl, ◌∙◌, ap, arith, true, false}
+use Rattle.std.proofs.Common.{◌≡◌, ℕ, ◌+◌, ◌-◌, ◌^◌, List, [], ◌∷◌, ◌++◌, length, reverse, refl, ◌∙◌, ap, arith, true, false}
 use Rattle.std.specs.Prelude.{Bool, ◌&&◌, ◌||◌, not, min, Option, Some, None}
 use Rattle.std.specs.List.{filter_map}
 use Rattle.std.proofs.lemmas.List.{append-nil, reverse-append}
 use Rattle.std.proofs.lemmas.List.Elements.{filter_map-append}
-use Rattle.rl_ids.specs.declared.members.MemberKey.{MemberKey}
-use Rattle.rl_ids.specs.declared.objects.ObjectId.{ObjectId}
 use Rattle.rl_types.specs.declared.channel.ChannelReply.{ChannelReply}
 use Rattle.rl_types.specs.declared.channel.ChannelReply.TheVariants.{Put, Joined, Read, Members, Objects, Gone, Ticked, Census}
 use Rattle.rl_types.specs.declared.objects.ObjectState.{ObjectState}
@@ -39,13 +37,13 @@ latest_of : {A : Type 0} (f : Step → Option A) (latest : Step) (before : List 
 latest_of f latest before = ap (filter_map f) (reverse-append (latest ∷ []) before) ∙ filter_map-append f (reverse before) (latest ∷ [])
 
 -- it brings none of this kind
-none_of : {A : Type 0} (f : Step → Option A) (latest : Step) (before : List Step) → f latest ≡ None
+pub none_of : {A : Type 0} (f : Step → Option A) (latest : Step) (before : List Step) → f latest ≡ None
     → filter_map f (reverse (latest ∷ before)) ≡ filter_map f (reverse before)
 none_of {A} f latest before none =
     latest_of f latest before ∙ rw none (append-nil (filter_map f (reverse before)))
 
 -- it brings one
-one_of : {A : Type 0} (f : Step → Option A) (latest : Step) (before : List Step) (page : A) → f latest ≡ Some page
+pub one_of : {A : Type 0} (f : Step → Option A) (latest : Step) (before : List Step) (page : A) → f latest ≡ Some page
     → filter_map f (reverse (latest ∷ before)) ≡ filter_map f (reverse before) ++ page ∷ []
 one_of f latest before page one = latest_of f latest before ∙ rw one refl
 

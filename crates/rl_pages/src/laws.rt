@@ -4,6 +4,7 @@ ghost use Rattle.rl_ids.specs.declared.objects.ObjectId.{ObjectId};
 ghost use Rattle.rl_types.specs.declared.objects.ObjectState.{ObjectState};
 ghost use Rattle.rl_types.specs.declared.presence.PresenceItem.{PresenceItem};
 ghost use Rattle.rl_pages.specs.Examples.{ShowsBoth, ShowsLess};
+ghost use Rattle.rl_pages.specs.Sending.{SendsInOrder, WantsMembersFirst};
 ghost use Rattle.rl_pages.specs.History.{BeginsPastTheLast, EndsForGood, EndsOnce, StandsForPages};
 
 /// After any pages and ends, what is kept asks for the page, numbers the frames and ends where the whole lists of
@@ -20,6 +21,20 @@ pub fn stands_for_pages()
 pub fn begins_past_the_last()
     ensures members { BeginsPastTheLast PresenceItem MemberKey }
     ensures objects { BeginsPastTheLast ObjectState ObjectId }
+{}
+
+/// A reply with members is wanted while a page of them is, one with objects once the members are whole and a page of
+/// the objects is, and none where no page is.
+#[tactic(auto, using(crate::proofs::Sent::wants_members_first))]
+pub fn wants_members_first()
+    ensures { WantsMembersFirst }
+{}
+
+/// Where each reply brought the page that was wanted next, all that is sent is the pages of the members, numbered in
+/// order from 1, then those of the objects, numbered again from 1, and behind them the end pages, once they have ended.
+#[tactic(auto, using(crate::proofs::Sent::sends_in_order))]
+pub fn sends_in_order()
+    ensures { SendsInOrder }
 {}
 
 /// The end pages are sent once, however often the end is asked for, and only after each page that was asked for came.

@@ -70,10 +70,11 @@ impl Pages {
         Ok(None)
     }
 
-    /// Takes the page that was wanted next, and answers the frame in which it is sent: its members or objects as
-    /// they came, under `SEQUENCE:PAGE`, the pages of each kind numbered from 1 (RTP18a). The next page begins past
-    /// the last key that came; an empty page leaves where it begins. All memory is taken before the first change:
-    /// where there is none, the sequences are as before.
+    /// Takes the page that was wanted next, as a reply to the event that [`next`](Pages::next) gives, and answers the
+    /// frame in which it is sent: its members or objects as they came, under `SEQUENCE:PAGE`, the pages of each kind
+    /// numbered from 1 (RTP18a). The next page begins past the last key that came; an empty page leaves where it
+    /// begins. All memory is taken before the first change: where there is none, the sequences are as before. (The
+    /// spelling of both numbers, in decimal, is this project's own.)
     pub fn absorb(&mut self, alloc: Global, reply: &ChannelReply) -> Result<Frame, NoMemory>
         requires { state.is_wanted reply.now self.old ≡ true }
         ensures frame { IfOk result (λ frame. state.page_frame reply.now self.old ≡ Some frame) }
@@ -93,7 +94,8 @@ impl Pages {
 
     /// Whether the sequences may end for a session that has sent the entries up to this place: some sequence that was
     /// asked for has not ended, every page that was asked for was absorbed, and the place is at least every head at
-    /// which they were made. It takes no memory. (This project's own.)
+    /// which they were made. Where nothing was asked for there is nothing to end. It takes no memory. (This project's
+    /// own.)
     pub fn may_end(&self, position: Place) -> bool
         ensures { result ≡ state.may_end position self.now }
     {
