@@ -1,5 +1,5 @@
--- A session with 65 members and 5 objects, and one without either: what is asked for, what is sent and when the end may
--- be.
+-- Sessions that asked for members and objects, for objects alone and for neither: what is asked of the channel, what is
+-- sent, and when the end may be.
 use Rattle.std.specs.Prelude.{ℕ, ◌≡◌, true, false, List, [], ◌∷◌, Some, None, codes}
 use Rattle.rl_ids.specs.declared.members.MemberKey.{MemberKey}
 use Rattle.rl_ids.specs.declared.objects.ObjectId.TheVariants.{Root}
