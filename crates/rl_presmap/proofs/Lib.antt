@@ -1,0 +1,10 @@
+pub mod Keys
+pub mod Places
+pub mod Numbers
+pub mod Slots
+pub mod Sound
+pub mod ByKey
+pub mod Taking
+pub mod Loops
+pub mod Calls
+pub mod Tried

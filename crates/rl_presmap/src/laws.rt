@@ -1,0 +1,25 @@
+//! Laws over the definitions alone. Each is a function that does nothing: its contract is the law.
+ghost use Rattle.rl_presmap.specs.ByKey.{AllGoByKey};
+ghost use Rattle.rl_presmap.specs.Examples.{IdsRead, NewnessIs, ItemsAreTaken, SyncsGo, PagesGo};
+
+/// What stands at a key after a call is a function of what stood there, of the sync, and of what the call was given; so
+/// an item changes what stands at its own key alone. This holds of every map whose keys rise.
+#[tactic(auto, using(crate::proofs::ByKey::all_go_by_key))]
+pub fn all_go_by_key()
+    ensures { AllGoByKey }
+{}
+
+/// Which ids are regular, and which of two items is the newer one.
+#[tactic(auto, using(crate::proofs::Tried::ids_read, crate::proofs::Tried::newness_is))]
+pub fn examples_of_newness()
+    ensures ids { IdsRead }
+    ensures newness { NewnessIs }
+{}
+
+/// What small maps hold and tell after items, and while syncs open and end.
+#[tactic(auto, using(crate::proofs::Tried::items_are_taken, crate::proofs::Tried::syncs_go, crate::proofs::Tried::pages_go))]
+pub fn examples_of_maps()
+    ensures items { ItemsAreTaken }
+    ensures syncs { SyncsGo }
+    ensures pages { PagesGo }
+{}
