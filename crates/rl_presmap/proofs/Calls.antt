@@ -19,8 +19,8 @@ still_rising old new sync same sound = subst AreRising (sym same) sound.rising
 
 pub applied_sound : (item : PresenceItem) (old kept new : List Held) (sync : SyncState) (syncing : Bool) → kept ≡ old → syncing ≡ is_open sync → new ≡ with_item syncing item kept
     → IsSound old sync → IsSound new sync
-applied_sound item old kept new sync syncing same open step sound =
-    let is : new ≡ with_item (is_open sync) item old = step ∙ ap (λ b. with_item b item kept) open ∙ ap (with_item (is_open sync) item) same in
+applied_sound item old kept new sync syncing same is_on step sound =
+    let is : new ≡ with_item (is_open sync) item old = step ∙ ap (λ b. with_item b item kept) is_on ∙ ap (with_item (is_open sync) item) same in
     subst (λ (xs : List Held). IsSound xs sync) (sym is) (sound_item item old sync sound)
 
 pub opened_sound : (old new : List Held) (sync : SyncState) → new ≡ all_residual old → IsSound old sync → IsSound new Opened

@@ -4,7 +4,9 @@ pub mod Numbers
 pub mod Slots
 pub mod Sound
 pub mod ByKey
-pub mod Taking
+pub mod Taken
 pub mod Loops
 pub mod Calls
+pub mod Ids
+pub mod Fresh
 pub mod Tried

@@ -1,10 +1,10 @@
 //! Laws over the definitions alone. Each is a function that does nothing: its contract is the law.
 ghost use Rattle.rl_presmap.specs.ByKey.{AllGoByKey};
 ghost use Rattle.rl_presmap.specs.Examples.{IdsRead, NewnessIs, ItemsAreTaken, SyncsGo, PagesGo};
+ghost use Rattle.rl_presmap.specs.Renewing.{OrderlyLogsRenew};
 
 /// What stands at a key after a call is a function of what stood there, of the sync, and of what the call was given; so
 /// an item changes what stands at its own key alone. This holds of every map whose keys rise.
-#[tactic(auto, using(crate::proofs::ByKey::all_go_by_key))]
 pub fn all_go_by_key()
     ensures { AllGoByKey }
 {}
@@ -22,4 +22,11 @@ pub fn examples_of_maps()
     ensures items { ItemsAreTaken }
     ensures syncs { SyncsGo }
     ensures pages { PagesGo }
+{}
+
+/// In the log of an orderly history, in which no Put of a connection adds after a Gone of it, each item of a key is newer
+/// than all earlier ones of that key, and none of these is newer than an ENTER or UPDATE after it. So the last item of a
+/// key is newer than each before it. (That histories are orderly is this project's own.)
+pub fn orderly_logs_renew()
+    ensures { OrderlyLogsRenew }
 {}

@@ -1,4 +1,4 @@
-use Rattle.rl_presmap.proofs.Taking.{named_set}
+use Rattle.rl_presmap.proofs.Taken.{named_set}
 use Rattle.rl_presmap.proofs.taking.name.Goals as goal
 
 pub returns-clause-items : goal.returns-clause-items

@@ -1,5 +1,5 @@
 use Rattle.std.proofs.Common.{arith}
-use Rattle.rl_presmap.proofs.Taking.{slot_set}
+use Rattle.rl_presmap.proofs.Taken.{slot_set}
 use Rattle.rl_presmap.proofs.taking.replace.Goals as goal
 
 pub returns-in-Some-clause-items : goal.returns-in-Some-clause-items

@@ -1,4 +1,4 @@
-use Rattle.rl_presmap.proofs.Taking.{held_in, heard_as, again_items, again_event}
+use Rattle.rl_presmap.proofs.Taken.{held_in, heard_as, again_items, again_event}
 use Rattle.rl_presmap.proofs.taking.take_up.Goals as goal
 
 pub returns-in-Ok-clause-items : goal.returns-in-Ok-clause-items
