@@ -25,7 +25,7 @@ use Rattle.rl_model.specs.Texts.{made_id, gone_id}
 use Rattle.rl_model.specs.Ids.{filled_presence, has_long}
 use Rattle.rl_model.specs.Members.{is_of, is_on, enters, members, items_of, presence_of}
 use Rattle.rl_model.specs.Verdict.{Decision, entries, kept, kept_at, Judgement, Stale, Again, Known, Fails, Adds, is_put, is_bad_action, has_no_client, own_rule, judged_by_rules, judged_by_id, judged_by_serial, judged, verdict, verdict_at, entry_if, entry_of, leaves, gone_entry, entry_of_gone, members_on, decided, decisions, log, remembered_of, limit_rule, object_rule, fails_or, told}
-use Rattle.rl_presmap.specs.Newness.{numbers_of, is_newer_by}
+use Rattle.rl_presmap.specs.Newness.{numbers_of, is_newer_by, is_newer}
 use Rattle.rl_presmap.specs.Renewing.{has_gone, AddsInTime, IsOrderly, IsHeldByTypes, items_of_key, Renews, AreRenewing, IsRenewing, OrderlyLogsRenew}
 use Rattle.rl_presmap.proofs.Numbers.{and_parts}
 use Rattle.rl_presmap.proofs.Ids.{numbers_of_put, numbers_of_gone}
@@ -526,10 +526,22 @@ fresh_always site key (MemberPage after most ∷ past) range orderly = quiet sit
 fresh_always site key (ObjectPage after most ∷ past) range orderly = quiet site key past (ObjectPage after most) refl (λ c. refl) (λ c. refl) (fresh_always site key past range.1 orderly.1)
 fresh_always site key (Census ∷ past) range orderly = quiet site key past Census refl (λ c. refl) (λ c. refl) (fresh_always site key past range.1 orderly.1)
 
+last_renews : (items earlier : List PresenceItem) (last : PresenceItem) → items ≡ earlier ++ last ∷ [] → AreRenewing items → Each (λ (item : PresenceItem). is_newer last item ≡ true) earlier
+last_renews items earlier last is are = of earlier last (subst AreRenewing is are)
+  where
+    renewed : (earlier : List PresenceItem) (last item : PresenceItem) → Each (λ (later : PresenceItem). Renews later item) (earlier ++ last ∷ []) → is_newer last item ≡ true
+    renewed [] last item all = all.0.0
+    renewed (other ∷ earlier) last item all = renewed earlier last item all.1
+
+    of : (earlier : List PresenceItem) (last : PresenceItem) → AreRenewing (earlier ++ last ∷ []) → Each (λ (item : PresenceItem). is_newer last item ≡ true) earlier
+    of [] last are = tt
+    of (item ∷ earlier) last are = (renewed earlier last item are.0, of earlier last are.1)
+
 -- the law of newness
 pub orderly_logs_renew : OrderlyLogsRenew
 orderly_logs_renew site past range orderly =
     record {
       changes = λ key. (fresh_always site key past range orderly).changes;
       renewing = λ key. (fresh_always site key past range orderly).renewing;
+      last = λ key earlier last is. last_renews (items_of_key key (log site past)) earlier last is (fresh_always site key past range orderly).renewing;
     }

@@ -3,6 +3,7 @@ pub mod Places
 pub mod Numbers
 pub mod Slots
 pub mod Sound
+pub mod Steady
 pub mod ByKey
 pub mod Taken
 pub mod Loops

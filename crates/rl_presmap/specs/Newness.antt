@@ -10,9 +10,13 @@ use Rattle.rl_types.specs.declared.presence.PresenceItem.{PresenceItem}
 abbrev pub rest_after : List ℕ → List ℕ → Option (List ℕ)
 rest_after prefix text = if bytes_eq (take (length prefix) text) prefix then Some (drop (length prefix) text) else None
 
+-- as many digits as spell a number that 128 bits always hold
+abbrev pub most_digits : ℕ
+most_digits = 38
+
 -- 1 to 38 decimal digits, with leading zeros where there are any
 abbrev pub is_number : List ℕ → Bool
-is_number text = nat_lt 0 (length text) && nat_le (length text) 38 && list_all is_digit text
+is_number text = nat_lt 0 (length text) && nat_le (length text) most_digits && list_all is_digit text
 
 abbrev pub number : List ℕ → Option ℕ
 number text = if is_number text then Some (spelled 10 text) else None

@@ -1,5 +1,5 @@
 -- Orderly histories of a channel, and how the presence items of one key follow each other in their logs.
-use Rattle.std.specs.Prelude.{⊤, ◌≡◌, ℕ, ◌^◌, ◌<◌, Bool, true, false, ◌||◌, ◌==◌, List, [], ◌∷◌, length, filter, Option, Some, None}
+use Rattle.std.specs.Prelude.{⊤, ◌≡◌, ℕ, ◌^◌, ◌<◌, Bool, true, false, ◌||◌, ◌==◌, List, [], ◌∷◌, ◌++◌, length, filter, Option, Some, None}
 use Rattle.std.specs.List.{AllByRecursion}
 use Rattle.rl_ids.specs.declared.members.MemberKey.{MemberKey}
 use Rattle.rl_types.specs.declared.channel.ChannelEvent.{ChannelEvent}
@@ -54,10 +54,16 @@ abbrev pub AreRenewing : List PresenceItem → Type 0
 AreRenewing [] = ⊤
 AreRenewing (item ∷ items) = AllByRecursion (λ (later : PresenceItem). Renews later item) items × AreRenewing items
 
+-- the last item of each key is newer than all before it
+abbrev pub LastIsNewest : List Entry → Type 0
+LastIsNewest log = (key : MemberKey) → (earlier : List PresenceItem) → (last : PresenceItem) → items_of_key key log ≡ earlier ++ last ∷ []
+    → AllByRecursion (λ (item : PresenceItem). is_newer last item ≡ true) earlier
+
 -- of each key the items enter, change and leave, and each renews all before it
 pub record IsRenewing (log : List Entry) : Type 0 where
   pub changes : (key : MemberKey) → AllByRecursion (λ (item : PresenceItem). is_put item.action ≡ true) (items_of_key key log)
   pub renewing : (key : MemberKey) → AreRenewing (items_of_key key log)
+  pub last : LastIsNewest log
 
 abbrev pub OrderlyLogsRenew : Type 0
 OrderlyLogsRenew = (site : List ℕ) → (past : List ChannelEvent) → AllByRecursion IsHeldByTypes past → IsOrderly site past → IsRenewing (log site past)

@@ -2,11 +2,19 @@
 ghost use Rattle.rl_presmap.specs.ByKey.{AllGoByKey};
 ghost use Rattle.rl_presmap.specs.Examples.{IdsRead, NewnessIs, ItemsAreTaken, SyncsGo, PagesGo};
 ghost use Rattle.rl_presmap.specs.Renewing.{OrderlyLogsRenew};
+ghost use Rattle.rl_presmap.specs.Soundness.{MapsStaySound};
 
 /// What stands at a key after a call is a function of what stood there, of the sync, and of what the call was given; so
 /// an item changes what stands at its own key alone. This holds of every map whose keys rise.
 pub fn all_go_by_key()
     ensures { AllGoByKey }
+{}
+
+/// In a map the keys rise, and none is residual or absent where no sync is open. A map that holds nothing is so, and each
+/// call leaves one that is so. So the end of a sync changes nothing and tells nothing where none is open.
+#[tactic(auto, using(crate::proofs::Steady::maps_stay_sound))]
+pub fn maps_stay_sound()
+    ensures { MapsStaySound }
 {}
 
 /// Which ids are regular, and which of two items is the newer one.
@@ -26,7 +34,7 @@ pub fn examples_of_maps()
 
 /// In the log of an orderly history, in which no Put of a connection adds after a Gone of it, each item of a key is newer
 /// than all earlier ones of that key, and none of these is newer than an ENTER or UPDATE after it. So the last item of a
-/// key is newer than each before it. (That histories are orderly is this project's own.)
+/// key is newer than each before it. A map that takes the newer one so ends with the last. (That histories are orderly is this project's own.)
 pub fn orderly_logs_renew()
     ensures { OrderlyLogsRenew }
 {}

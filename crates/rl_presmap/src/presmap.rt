@@ -1,8 +1,9 @@
-ghost use Rattle.std.specs.Prelude.{◌≡◌, ◌++◌, [], filter, Some, IfOk, OnOk, OnErr, IsOk};
+ghost use Rattle.std.specs.Prelude.{◌≡◌, false, ◌++◌, [], filter, Some, IfOk, OnOk, OnErr, IsOk};
 ghost use Rattle.std.specs.Option.{option_copied};
 ghost use Rattle.rl_presmap.specs.declared.held.SyncState.TheVariants.{Closed, Numbered};
 ghost use Rattle.rl_presmap.specs.Held.{is_member, is_open};
 ghost use Rattle.rl_presmap.specs.Steps.{applied, event_of, opened, ended, end_events, leaves, begun, paged, events_of, page_taken, page_events, members};
+ghost use Rattle.rl_presmap.specs.Soundness.{IsSoundMap};
 
 use crate::copies::{copy_all, members_of, room_for, sum};
 use crate::ends::{all_leave, end};
@@ -117,12 +118,14 @@ impl PresMap {
         }
     }
 
-    /// Ends the sync (RTP18b, RTP19): residual members are removed, with a Left event each that has the held item, in
-    /// order of key; ABSENT ones are dropped without. Where no sync is open there are none of either, and nothing
-    /// changes. `NoMemory` leaves the map as before.
+    /// Ends the sync (RTP18b, RTP19): residual members are removed, with a Left event each, in order of key; ABSENT ones
+    /// are dropped without. Where no sync is open there are none of either, and nothing changes. (That the event has the
+    /// held item is this project's own.) `NoMemory` leaves the map as before.
     pub fn sync_end(&mut self, alloc: Global) -> Result<List<PresenceEvent>, NoMemory>
         ensures step { OnOk result (self.new ≡ ended self.old.held) }
         ensures events { IfOk result (λ events. events ≡ end_events self.old.held) }
+        ensures outside { is_open self.old.sync ≡ false → OnOk result (self.new ≡ self.old) }
+        ensures nobody { is_open self.old.sync ≡ false → IfOk result (λ events. events ≡ []) }
         ensures err { OnErr result (self.new ≡ self.old) }
     {
         let mut events = room_for(alloc, self.held.len())?;
@@ -133,8 +136,8 @@ impl PresMap {
     }
 
     /// Removes every member, with a Left event each that has the held item, in order of key: at an ATTACHED without
-    /// HAS_PRESENCE (RTP19a), at DETACHED and at FAILED (RTP5a). ABSENT ones are dropped without. No sync is open then.
-    /// `NoMemory` leaves the map as before.
+    /// HAS_PRESENCE (RTP19a), and wherever else a client forgets the members (RTP5a). ABSENT ones are dropped without.
+    /// No sync is open then. `NoMemory` leaves the map as before.
     pub fn clear(&mut self, alloc: Global) -> Result<List<PresenceEvent>, NoMemory>
         ensures step { OnOk result (self.new ≡ record { held = []; sync = Closed }) }
         ensures events { IfOk result (λ events. events ≡ leaves (filter is_member self.old.held)) }
@@ -149,14 +152,17 @@ impl PresMap {
 
     /// The members, in order of key: residual ones too, but no ABSENT ones.
     pub fn members(&self, alloc: Global) -> Result<List<PresenceItem>, NoMemory>
-        ensures { IfOk result (λ items. items ≡ members self.now) }
+        ensures items { IfOk result (λ items. items ≡ members self.now) }
+        ensures holds { IsSoundMap self.now }
     {
         members_of(alloc, self.held.as_slice())
     }
 
-    /// Whether a sync is open. It takes no memory.
+    /// Whether a sync is open. It takes no memory. What is told of the map holds at every moment: its keys rise, and none
+    /// is residual or absent where no sync is open.
     pub fn syncing(&self) -> bool
-        ensures { result ≡ is_open self.now.sync }
+        ensures value { result ≡ is_open self.now.sync }
+        ensures holds { IsSoundMap self.now }
     {
         self.sync.is_open()
     }
