@@ -1,23 +1,21 @@
 -- What stands at one key after each call.
 use Rattle.std.proofs.Common.{◌≡◌, Bool, true, false, cond, List, [], ◌∷◌, refl, ap, sym, ◌∙◌}
-use Rattle.std.specs.Prelude.{Option, Some, None, IfSome, filter, find, map, not, ◌&&◌, option_map}
-use Rattle.std.specs.declared.cmp.Ordering.{Ordering}
-use Rattle.std.specs.declared.cmp.Ordering.TheVariants.{Less, Equal, Greater}
+use Rattle.std.specs.Prelude.{Option, Some, None, filter, find, map, not, ◌&&◌, option_map}
+use Rattle.std.specs.declared.cmp.Ordering.TheVariants.{Less, Equal}
 use Rattle.rl_ids.specs.declared.members.MemberKey.{MemberKey}
 use Rattle.rl_types.specs.declared.frames.Cursor.{Cursor}
 use Rattle.rl_types.specs.declared.presence.PresenceItem.{PresenceItem}
 use Rattle.rl_model.specs.Members.{key_of, key_cmp, is_of}
 use Rattle.rl_presmap.specs.declared.held.Held.{Held}
 use Rattle.rl_presmap.specs.declared.held.Standing.TheVariants as standing
-use Rattle.rl_presmap.specs.declared.held.SyncState.{SyncState}
 use Rattle.rl_presmap.specs.declared.held.SyncState.TheVariants.{Numbered}
 use Rattle.rl_presmap.specs.Held.{PresenceMap, AreRising, is_plain, is_member, is_open, is_held_of, slot, with_slot}
-use Rattle.rl_presmap.specs.Steps.{is_absent, slot_after, held_as, with_item, with_items, all_residual, all_plain, opened, applied, ended, goes_on, ends_sync, is_empty, begun, paged, page_taken, members}
-use Rattle.rl_presmap.specs.ByKey.{only, slot_applied, slot_applied_all, slot_opened, slot_ended, slot_begun, slot_closed, slot_paged, GoesByKey, AllGoByKey}
-use Rattle.rl_presmap.proofs.Keys.{of_same, of_equal, of_itself, is_of_is}
+use Rattle.rl_presmap.specs.Steps.{is_absent, slot_after, held_as, with_item, with_items, all_residual, all_plain, ended, goes_on, is_empty, begun, paged, page_taken}
+use Rattle.rl_presmap.specs.ByKey.{only, slot_applied, slot_applied_all, slot_opened, slot_ended, slot_begun, slot_closed, slot_paged, AllGoByKey}
+use Rattle.rl_presmap.proofs.Keys.{of_same, of_equal}
 use Rattle.rl_presmap.proofs.Places.{AllLater, clash, found, passed}
-use Rattle.rl_presmap.proofs.Slots.{slot_is_of, slot_put, slot_other, slot_map, slot_later, slot_none_pass, each_kept, rising_kept}
-use Rattle.rl_presmap.proofs.Sound.{after_is_of, items_rising, item_rising, begun_rising}
+use Rattle.rl_presmap.proofs.Slots.{slot_is_of, slot_put, slot_other, slot_map, slot_later, each_kept}
+use Rattle.rl_presmap.proofs.Sound.{after_is_of, items_rising, begun_rising}
 
 -- A FILTER, WHERE EACH KEY STANDS ONCE
 

@@ -1,14 +1,13 @@
 -- What the calls leave, from what their steps do.
-use Rattle.std.proofs.Common.{◌≡◌, ℕ, Bool, true, false, cond, List, [], ◌∷◌, ◌++◌, refl, ap, sym, subst, ◌∙◌}
-use Rattle.std.specs.Prelude.{Option, Some, None}
+use Rattle.std.proofs.Common.{◌≡◌, ℕ, Bool, cond, List, ap, sym, subst, ◌∙◌}
+use Rattle.std.specs.Prelude.{Option}
 use Rattle.rl_types.specs.declared.frames.Cursor.{Cursor}
 use Rattle.rl_types.specs.declared.presence.PresenceItem.{PresenceItem}
 use Rattle.rl_presmap.specs.declared.held.Held.{Held}
 use Rattle.rl_presmap.specs.declared.held.SyncState.{SyncState}
 use Rattle.rl_presmap.specs.declared.held.SyncState.TheVariants.{Closed, Opened, Numbered}
-use Rattle.rl_presmap.specs.declared.events.PresenceEvent.{PresenceEvent}
 use Rattle.rl_presmap.specs.Held.{PresenceMap, AreRising, IsSound, is_open}
-use Rattle.rl_presmap.specs.Steps.{with_item, with_items, event_of, events_of, all_residual, all_plain, end_events, goes_on, begun, paged}
+use Rattle.rl_presmap.specs.Steps.{with_item, with_items, all_residual, all_plain, goes_on, begun}
 use Rattle.rl_presmap.proofs.Sound.{sound_item, sound_opened, sound_ended, sound_numbered, items_rising, begun_rising}
 
 abbrev pub known_as : List Held → SyncState → PresenceMap

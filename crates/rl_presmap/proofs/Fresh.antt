@@ -1,9 +1,8 @@
 -- In the log of an orderly history each item of a key renews the ones before it.
-use Rattle.std.proofs.Common.{◌≡◌, ◌⊎◌, inl, inr, ℕ, zero, suc, ◌+◌, ◌^◌, ◌≤◌, ◌<◌, Bool, true, false, cond, List, [], ◌∷◌, ◌++◌, length, refl, sym, ◌∙◌, ap, subst, arith, append-nil, append_assoc}
-use Rattle.std.specs.Prelude.{⊤, Option, Some, None, ◌&&◌, ◌||◌, ◌==◌, not, nat_le, nat_lt, max, filter, option_map, option_to_list, bytes_eq}
+use Rattle.std.proofs.Common.{◌≡◌, ◌⊎◌, inl, inr, ℕ, suc, ◌+◌, ◌^◌, ◌≤◌, ◌<◌, Bool, true, false, cond, List, [], ◌∷◌, ◌++◌, length, refl, sym, ◌∙◌, ap, subst, arith, append-nil, append_assoc}
+use Rattle.std.specs.Prelude.{Option, Some, None, ◌&&◌, ◌||◌, ◌==◌, not, nat_le, nat_lt, filter, option_map, option_to_list, bytes_eq}
 use Rattle.std.specs.List.{AllByRecursion, list_any}
 use Rattle.std.proofs.lemmas.Bool.{eq-eqb, eqb-true}
-use Rattle.std.proofs.lemmas.Bool.Decides.{nat_tests}
 use Rattle.std.proofs.lemmas.Slice.Eq.{bytes_eq-Decides}
 use Rattle.rl_numbers.specs.declared.limits.TheConstants.{MAX_PLACE, MAX_MESSAGE_SIZE}
 use Rattle.rl_numbers.specs.declared.codes.TheConstants.{BAD_ACTION, LOG_FULL, NO_CLIENT_ID, TOO_LONG}
@@ -24,10 +23,9 @@ use Rattle.rl_model.specs.History.{clock, setting, Setting}
 use Rattle.rl_model.specs.Texts.{made_id, gone_id}
 use Rattle.rl_model.specs.Ids.{filled_presence, has_long}
 use Rattle.rl_model.specs.Members.{is_of, is_on, enters, members, items_of, presence_of}
-use Rattle.rl_model.specs.Verdict.{Decision, entries, kept, kept_at, Judgement, Stale, Again, Known, Fails, Adds, is_put, is_bad_action, has_no_client, own_rule, judged_by_rules, judged_by_id, judged_by_serial, judged, verdict, verdict_at, entry_if, entry_of, leaves, gone_entry, entry_of_gone, members_on, decided, decisions, log, remembered_of, limit_rule, object_rule, fails_or, told}
+use Rattle.rl_model.specs.Verdict.{Decision, entries, kept, kept_at, Judgement, Stale, Again, Known, Fails, Adds, is_put, is_bad_action, has_no_client, judged_by_rules, judged_by_id, judged_by_serial, judged, verdict_at, entry_if, entry_of, leaves, gone_entry, entry_of_gone, members_on, decided, decisions, log, remembered_of, limit_rule, object_rule, fails_or, told}
 use Rattle.rl_presmap.specs.Newness.{numbers_of, is_newer_by, is_newer}
-use Rattle.rl_presmap.specs.Renewing.{has_gone, AddsInTime, IsOrderly, IsHeldByTypes, items_of_key, Renews, AreRenewing, IsRenewing, OrderlyLogsRenew}
-use Rattle.rl_presmap.proofs.Numbers.{and_parts}
+use Rattle.rl_presmap.specs.Renewing.{has_gone, AddsInTime, IsOrderly, IsHeldByTypes, items_of_key, Renews, AreRenewing, OrderlyLogsRenew}
 use Rattle.rl_presmap.proofs.Ids.{numbers_of_put, numbers_of_gone}
 
 -- LISTS

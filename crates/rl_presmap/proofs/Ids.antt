@@ -1,7 +1,7 @@
 -- Which numbers the id of an item of a log has.
-use Rattle.std.proofs.Common.{◌≡◌, ℕ, suc, ◌^◌, ◌≤◌, ◌<◌, ◌+◌, Bool, true, false, cond, List, [], ◌∷◌, ◌++◌, length, take, drop, refl, sym, ◌∙◌, ap, arith, append_assoc}
-use Rattle.std.specs.Prelude.{Option, Some, None, option_and_then, codes, ◌&&◌, not, bytes_eq}
-use Rattle.std.specs.List.{list_all, before_first, after_first, prefix_len, position_or_len}
+use Rattle.std.proofs.Common.{◌≡◌, ℕ, suc, ◌^◌, ◌≤◌, ◌<◌, ◌+◌, true, false, cond, List, [], ◌∷◌, ◌++◌, length, take, drop, refl, ◌∙◌, ap, arith, append_assoc}
+use Rattle.std.specs.Prelude.{Option, Some, None, option_and_then, codes, not, bytes_eq}
+use Rattle.std.specs.List.{list_all, before_first, after_first, position_or_len}
 use Rattle.std.specs.Fmt.{decimal}
 use Rattle.std.proofs.Math.Seq.{take-append_seam, drop-append_seam}
 use Rattle.std.proofs.lemmas.Slice.Eq.{bytes_eq-Decides}
@@ -12,7 +12,7 @@ use Rattle.rl_types.specs.declared.presence.PresenceItem.{PresenceItem}
 use Rattle.rl_ids.specs.Forms.{conn_text}
 use Rattle.rl_ids.proofs.ObjectTexts.{spelled_decimal, decimal_digits}
 use Rattle.rl_model.specs.Texts.{made_id, gone_id}
-use Rattle.rl_presmap.specs.Newness.{rest_after, is_number, number, both, is_colon, numbers_in, numbers_of}
+use Rattle.rl_presmap.specs.Newness.{rest_after, number, both, is_colon, numbers_in, numbers_of}
 use Rattle.rl_presmap.proofs.Numbers.{and_parts, is_number_of}
 
 rest_after_own : (prefix text : List ℕ) → rest_after prefix (prefix ++ text) ≡ Some text

@@ -3,7 +3,7 @@ use Rattle.std.proofs.Common.{◌≡◌, ℕ, Bool, true, false, List, refl, ap,
 use Rattle.std.specs.Prelude.{bytes_eq, ◌&&◌}
 use Rattle.std.specs.declared.cmp.Ordering.{Ordering}
 use Rattle.std.specs.declared.cmp.Ordering.TheVariants.{Less, Equal, Greater}
-use Rattle.std.specs.Ordering.{nat_cmp, is_eq, is_lt, ordering_then, ordering_reverse}
+use Rattle.std.specs.Ordering.{nat_cmp, is_eq, ordering_then, ordering_reverse}
 use Rattle.std.specs.Cmp.{IsTotalOrder}
 use Rattle.std.specs.Cmp.Lexicographic.{slice_cmp}
 use Rattle.std.proofs.lemmas.Cmp.{nat_list_cmp_total, on_total, then_total, tied_itself}
@@ -82,4 +82,3 @@ of_less key item h = is_of_is key item ∙ ap is_eq h
 
 pub of_greater : (key : MemberKey) (item : PresenceItem) → key_cmp key (key_of item) ≡ Greater → is_of key item ≡ false
 of_greater key item h = is_of_is key item ∙ ap is_eq h
-

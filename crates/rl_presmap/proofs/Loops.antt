@@ -1,6 +1,6 @@
 -- One turn of the loops over what is held, and over what is taken up.
 use Rattle.std.proofs.Common.{◌≡◌, Bool, true, false, cond, List, [], ◌∷◌, ◌++◌, refl, ap, sym, ◌∙◌, append_assoc}
-use Rattle.std.specs.Prelude.{Option, filter, map, option_to_list}
+use Rattle.std.specs.Prelude.{Option, filter, option_to_list}
 use Rattle.rl_types.specs.declared.presence.PresenceItem.{PresenceItem}
 use Rattle.rl_presmap.specs.declared.held.Held.{Held}
 use Rattle.rl_presmap.specs.declared.events.PresenceEvent.{PresenceEvent}

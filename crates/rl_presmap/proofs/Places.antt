@@ -1,13 +1,13 @@
 -- A place among keys that rise.
-use Rattle.std.proofs.Common.{◌≡◌, ℕ, zero, suc, ◌<◌, Bool, true, false, cond, List, [], ◌∷◌, length, take, drop, refl, ap, sym, ◌∙◌, arith, get_or}
-use Rattle.std.specs.Prelude.{filter, find, Some, None, slice_get}
+use Rattle.std.proofs.Common.{◌≡◌, ℕ, zero, suc, ◌<◌, Bool, true, false, cond, List, [], ◌∷◌, length, refl, ap, sym, ◌∙◌, arith, get_or}
+use Rattle.std.specs.Prelude.{filter, Some, None}
 use Rattle.std.specs.List.{AllByRecursion}
 use Rattle.std.specs.List.Sorted.{IsPartitionedBy}
 use Rattle.std.specs.declared.cmp.Ordering.{Ordering}
 use Rattle.std.specs.declared.cmp.Ordering.TheVariants.{Less, Equal, Greater}
 use Rattle.std.specs.Ordering.{is_lt, is_eq}
 use Rattle.rl_ids.specs.declared.members.MemberKey.{MemberKey}
-use Rattle.rl_model.specs.Members.{key_of, key_cmp, is_of}
+use Rattle.rl_model.specs.Members.{key_of, key_cmp}
 use Rattle.rl_presmap.specs.declared.held.Held.{Held}
 use Rattle.rl_presmap.specs.Held.{AreRising, is_held_of, is_before, is_behind, slot, IsPlace, IsHeldAt, IsMissedAt}
 use Rattle.rl_presmap.proofs.Keys.{before_all, less_of_greater, greater_of_less, is_of_is, of_same, of_less, of_greater, before_itself}

@@ -1,6 +1,6 @@
 -- What is held of one key, and what the steps make of keys in order.
 use Rattle.std.proofs.Common.{◌≡◌, Bool, true, false, cond, List, [], ◌∷◌, ◌++◌, refl, ap, sym, ◌∙◌, subst}
-use Rattle.std.specs.Prelude.{⊤, Option, Some, None, IfSome, filter, find, map, not, ◌&&◌, option_map, option_to_list}
+use Rattle.std.specs.Prelude.{Option, Some, None, IfSome, filter, map, option_map, option_to_list}
 use Rattle.std.specs.List.{AllByRecursion}
 use Rattle.std.specs.declared.cmp.Ordering.{Ordering}
 use Rattle.std.specs.declared.cmp.Ordering.TheVariants.{Less, Equal, Greater}
@@ -10,8 +10,8 @@ use Rattle.rl_types.specs.declared.presence.PresenceItem.{PresenceItem}
 use Rattle.rl_model.specs.Members.{key_of, key_cmp, is_of}
 use Rattle.rl_presmap.specs.declared.held.Held.{Held}
 use Rattle.rl_presmap.specs.Held.{AreRising, is_held_of, is_before, is_behind, slot, with_slot}
-use Rattle.rl_presmap.proofs.Keys.{before_all, less_of_greater, greater_of_less, of_same, before_itself}
-use Rattle.rl_presmap.proofs.Places.{AllLater, later_all, lt_less, clash, kept, left, found, passed, is_less, is_greater, is_same}
+use Rattle.rl_presmap.proofs.Keys.{less_of_greater, greater_of_less, of_same, before_itself}
+use Rattle.rl_presmap.proofs.Places.{AllLater, later_all, lt_less, clash, found, passed, is_less, is_same}
 
 abbrev pub Each : (Held → Type 0) → List Held → Type 0
 Each P held = AllByRecursion P held
@@ -153,9 +153,10 @@ rising_kept test (h ∷ held) rising = by_test (test h) (rising_kept test held r
 rising_join : (key : MemberKey) (xs ys : List Held) → AreRising xs → Each (λ h. key_cmp (key_of h.item) key ≡ Less) xs → AreRising ys
     → ((other : MemberKey) → key_cmp other key ≡ Less → AllLater other ys) → AreRising (xs ++ ys)
 rising_join key [] ys rising before more later = more
-rising_join key (x ∷ xs) ys rising before more later =
-    (each_append (λ other. key_cmp (key_of x.item) (key_of other.item) ≡ Less) xs ys rising.0 (later (key_of x.item) before.0),
-    rising_join key xs ys rising.1 before.1 more later)
+rising_join key (x ∷ xs) ys rising before more later = (
+  each_append (λ other. key_cmp (key_of x.item) (key_of other.item) ≡ Less) xs ys rising.0 (later (key_of x.item) before.0),
+  rising_join key xs ys rising.1 before.1 more later,
+)
 
 later_behind : (key : MemberKey) (held : List Held) → AllLater key (filter (is_behind key) held)
 later_behind key held = each_passes (λ h. key_cmp key (key_of h.item) ≡ Less) (is_behind key) (λ h is. lt_less _ is) held

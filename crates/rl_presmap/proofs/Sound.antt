@@ -1,7 +1,6 @@
 -- What holds of a map at every moment.
-use Rattle.std.proofs.Common.{◌≡◌, ℕ, Bool, true, false, cond, List, [], ◌∷◌, ◌++◌, refl, ap, sym, ◌∙◌, true≢false}
-use Rattle.std.specs.Prelude.{Option, Some, None, IfSome, filter, map, option_map, option_to_list}
-use Rattle.rl_types.specs.declared.frames.Cursor.{Cursor}
+use Rattle.std.proofs.Common.{◌≡◌, ℕ, Bool, true, false, cond, List, [], ◌∷◌, refl, true≢false}
+use Rattle.std.specs.Prelude.{Option, Some, None, IfSome, filter, option_map}
 use Rattle.rl_types.specs.declared.presence.PresenceItem.{PresenceItem}
 use Rattle.rl_types.specs.declared.presence.PresenceAction.{PresenceAction}
 use Rattle.rl_types.specs.declared.presence.PresenceAction.TheVariants as presence
@@ -12,9 +11,9 @@ use Rattle.rl_presmap.specs.declared.held.Standing.TheVariants as standing
 use Rattle.rl_presmap.specs.declared.held.SyncState.{SyncState}
 use Rattle.rl_presmap.specs.declared.held.SyncState.TheVariants.{Closed, Opened, Numbered}
 use Rattle.rl_presmap.specs.Held.{AreRising, ArePlain, IsSound, is_plain, is_member, is_open, is_before, is_behind, slot, with_slot}
-use Rattle.rl_presmap.specs.Steps.{is_absent, is_taken, stored, held_as, named, named_as, slot_after, with_item, with_items, all_residual, all_plain, goes_on}
+use Rattle.rl_presmap.specs.Steps.{is_absent, is_taken, stored, held_as, named, named_as, slot_after, with_item, with_items, all_residual, all_plain}
 use Rattle.rl_presmap.proofs.Keys.{of_itself}
-use Rattle.rl_presmap.proofs.Slots.{Each, each_append, each_passes, each_kept, IsOf, slot_is_of, rising_kept, rising_put, rising_map}
+use Rattle.rl_presmap.proofs.Slots.{each_append, each_passes, each_kept, IsOf, slot_is_of, rising_kept, rising_put, rising_map}
 
 -- WHAT AN ITEM LEAVES IS OF ITS KEY
 

@@ -1,5 +1,5 @@
 -- Each call keeps what holds of a map at every moment.
-use Rattle.std.proofs.Common.{◌≡◌, Bool, true, false, cond, List, [], ◌∷◌, ◌++◌, refl, ap, ◌∙◌, true≢false}
+use Rattle.std.proofs.Common.{◌≡◌, Bool, true, false, cond, List, [], ◌∷◌, ◌++◌, refl, ap, ◌∙◌}
 use Rattle.std.specs.Prelude.{Option, Some, None, filter}
 use Rattle.rl_types.specs.declared.frames.Cursor.{Cursor}
 use Rattle.rl_types.specs.declared.presence.PresenceItem.{PresenceItem}
@@ -11,7 +11,7 @@ use Rattle.rl_presmap.specs.declared.held.SyncState.TheVariants.{Closed, Opened,
 use Rattle.rl_presmap.specs.declared.events.PresenceEvent.{PresenceEvent}
 use Rattle.rl_presmap.specs.Held.{PresenceMap, AreRising, ArePlain, IsSound, is_plain, is_residual, is_open}
 use Rattle.rl_presmap.specs.Steps.{all_plain, ended, end_events, leaves, goes_on, begun, paged, page_taken, is_empty}
-use Rattle.rl_presmap.specs.Soundness.{IsSoundMap, StaysSound, MapsStaySound}
+use Rattle.rl_presmap.specs.Soundness.{IsSoundMap, MapsStaySound}
 use Rattle.rl_presmap.proofs.Sound.{sound_item, sound_opened, sound_ended, sound_numbered, sound_nothing, items_rising, begun_rising}
 
 page_rises : (known : PresenceMap) (at : Option Cursor) (items : List PresenceItem) → AreRising known.held → AreRising (paged at items known)

@@ -1,5 +1,5 @@
 -- What stands at one key: after each call a function of what stood there, of the sync, and of what the call was given.
-use Rattle.std.specs.Prelude.{◌≡◌, Bool, true, ◌&&◌, not, if◌then◌else◌, List, [], ◌∷◌, find, filter, map, Option, Some, None, option_map}
+use Rattle.std.specs.Prelude.{◌≡◌, Bool, true, ◌&&◌, not, if◌then◌else◌, List, [], ◌∷◌, find, Option, Some, None, option_map}
 use Rattle.rl_ids.specs.declared.members.MemberKey.{MemberKey}
 use Rattle.rl_types.specs.declared.frames.Cursor.{Cursor}
 use Rattle.rl_types.specs.declared.presence.PresenceItem.{PresenceItem}

@@ -1,5 +1,5 @@
 -- Small presence maps whose members and events are known, with which the definitions are tried.
-use Rattle.std.specs.Prelude.{◌≡◌, ℕ, true, false, List, [], ◌∷◌, ◌++◌, Option, Some, None, codes}
+use Rattle.std.specs.Prelude.{◌≡◌, ℕ, true, false, List, [], ◌∷◌, Option, Some, None, codes}
 use Rattle.rl_types.specs.declared.frames.Cursor.{Cursor}
 use Rattle.rl_types.specs.declared.presence.PresenceItem.{PresenceItem}
 use Rattle.rl_types.specs.declared.presence.PresenceAction.{PresenceAction}
@@ -8,7 +8,6 @@ use Rattle.rl_presmap.specs.declared.held.Held.{Held}
 use Rattle.rl_presmap.specs.declared.held.Standing.{Standing}
 use Rattle.rl_presmap.specs.declared.held.Standing.TheVariants as standing
 use Rattle.rl_presmap.specs.declared.held.SyncState.TheVariants.{Closed, Opened, Numbered}
-use Rattle.rl_presmap.specs.declared.events.PresenceEvent.{PresenceEvent}
 use Rattle.rl_presmap.specs.declared.events.PresenceEvent.TheVariants.{Entered, Updated, Left}
 use Rattle.rl_presmap.specs.Newness.{numbers_of, is_newer}
 use Rattle.rl_presmap.specs.Held.{PresenceMap}
@@ -59,8 +58,10 @@ nothing_held = record { held = []; sync = Closed }
 
 abbrev pub entering : PresenceItem
 entering = item_of presence.Enter (codes "c1:0:0") 1 (codes "x")
+
 abbrev pub updating : PresenceItem
 updating = item_of presence.Update (codes "c1:1:0") 2 (codes "y")
+
 abbrev pub leaving : PresenceItem
 leaving = item_of presence.Leave (codes "c1:2:0") 3 (codes "z")
 

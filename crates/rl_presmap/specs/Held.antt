@@ -1,5 +1,5 @@
 -- What a presence map holds: of each key an item and how it stands, in order of key.
-use Rattle.std.specs.Prelude.{◌≡◌, ℕ, ◌<◌, ◌≤◌, ⊤, Bool, true, false, not, List, [], ◌∷◌, ◌++◌, length, take, drop, suc, filter, find, Option, Some, None, option_to_list, slice_index_or, slice_get, Result, MatchResult}
+use Rattle.std.specs.Prelude.{◌≡◌, ℕ, ◌<◌, ◌≤◌, ⊤, Bool, true, false, List, [], ◌∷◌, ◌++◌, length, take, drop, suc, filter, find, Option, None, option_to_list, slice_get, Result, MatchResult}
 use Rattle.std.specs.List.{AllByRecursion, AllWithin}
 use Rattle.std.specs.declared.cmp.Ordering.TheVariants.{Less}
 use Rattle.std.specs.Ordering.{is_lt}
@@ -9,7 +9,7 @@ use Rattle.rl_presmap.specs.declared.held.Held.{Held}
 use Rattle.rl_presmap.specs.declared.held.Standing.{Standing}
 use Rattle.rl_presmap.specs.declared.held.Standing.TheVariants as standing
 use Rattle.rl_presmap.specs.declared.held.SyncState.{SyncState}
-use Rattle.rl_presmap.specs.declared.held.SyncState.TheVariants.{Closed, Opened, Numbered}
+use Rattle.rl_presmap.specs.declared.held.SyncState.TheVariants.{Closed}
 
 -- a presence map: what it holds, and the sync that is open
 pub record PresenceMap : Type 0 where

@@ -13,7 +13,7 @@ use Rattle.rl_presmap.specs.declared.held.SyncState.TheVariants.{Closed, Opened,
 use Rattle.rl_presmap.specs.declared.events.PresenceEvent.{PresenceEvent}
 use Rattle.rl_presmap.specs.declared.events.PresenceEvent.TheVariants.{Entered, Updated, Left}
 use Rattle.rl_presmap.specs.Newness.{is_newer}
-use Rattle.rl_presmap.specs.Held.{PresenceMap, is_present, is_residual, is_plain, is_member, is_open, slot, with_slot}
+use Rattle.rl_presmap.specs.Held.{PresenceMap, is_residual, is_plain, is_member, is_open, slot, with_slot}
 
 -- ONE ITEM
 

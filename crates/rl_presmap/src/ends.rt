@@ -10,11 +10,7 @@ use std::alloc::Global;
 use std::mem;
 
 // Keeps one where it was named, or tells that it left.
-fn keep_or_tell(
-    one: Held,
-    kept: &mut RoomyList<Held>,
-    events: &mut RoomyList<PresenceEvent>,
-)
+fn keep_or_tell(one: Held, kept: &mut RoomyList<Held>, events: &mut RoomyList<PresenceEvent>)
     requires kept_room { 0 < kept.old.1 }
     requires events_room { 0 < events.old.1 }
     ensures kept { kept.new.0 ≡ kept.old.0 ++ all_plain (one ∷ []) }

@@ -69,11 +69,7 @@ fn tell(events: &mut RoomyList<PresenceEvent>, event: Option<PresenceEvent>)
 }
 
 // Takes the items of a page up, in order, and tells what they tell. There is room for all.
-pub fn take_all(
-    held: &mut Vec<Held>,
-    ready: List<Ready>,
-    events: &mut RoomyList<PresenceEvent>,
-)
+pub fn take_all(held: &mut Vec<Held>, ready: List<Ready>, events: &mut RoomyList<PresenceEvent>)
     requires rising { AreRising held.old.items }
     requires room { vec_len held.old + length ready ≤ vec_capacity held.old }
     requires events_room { length ready ≤ events.old.1 }

@@ -75,12 +75,7 @@ fn replace(held: &mut Vec<Held>, at: usize, slot: Option<Held>)
 }
 
 // Takes an item up at the place of its key, of which nothing is held.
-fn take_first(
-    held: &mut Vec<Held>,
-    at: usize,
-    syncing: bool,
-    ready: Ready,
-) -> Option<PresenceEvent>
+fn take_first(held: &mut Vec<Held>, at: usize, syncing: bool, ready: Ready) -> Option<PresenceEvent>
     requires within { at ≤ vec_len held.old }
     requires room { vec_len held.old < vec_capacity held.old }
     ensures items { held.new.items ≡ take at held.old.items ++ (option_to_list (stored ready.action syncing ready) ++ drop at held.old.items) }
@@ -94,12 +89,7 @@ fn take_first(
 }
 
 // Takes an item up in place of what is held of its key, than which it is newer.
-fn take_newer(
-    held: &mut Vec<Held>,
-    at: usize,
-    syncing: bool,
-    ready: Ready,
-) -> Option<PresenceEvent>
+fn take_newer(held: &mut Vec<Held>, at: usize, syncing: bool, ready: Ready) -> Option<PresenceEvent>
     requires { at < vec_len held.old }
     ensures items { held.new.items ≡ take at held.old.items ++ (option_to_list (stored ready.action syncing ready) ++ drop (suc at) held.old.items) }
     ensures event { (was : Held) → slice_get held.old.items at ≡ Some was → result ≡ told_as ready.action (is_member was) ready }
@@ -123,12 +113,7 @@ fn name(held: &mut Vec<Held>, at: usize)
 }
 
 // Takes an item up where something is held of its key.
-fn take_again(
-    held: &mut Vec<Held>,
-    at: usize,
-    syncing: bool,
-    ready: Ready,
-) -> Option<PresenceEvent>
+fn take_again(held: &mut Vec<Held>, at: usize, syncing: bool, ready: Ready) -> Option<PresenceEvent>
     requires { at < vec_len held.old }
     ensures items { (was : Held) → slice_get held.old.items at ≡ Some was → held.new.items ≡ take at held.old.items ++ (option_to_list (slot_after syncing ready (Some was)) ++ drop (suc at) held.old.items) }
     ensures event { (was : Held) → slice_get held.old.items at ≡ Some was → result ≡ told ready (Some was) }

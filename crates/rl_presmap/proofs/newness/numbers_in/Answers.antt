@@ -1,4 +1,4 @@
-use Rattle.std.proofs.Common.{ℕ, ◌∙◌, ap, sym}
+use Rattle.std.proofs.Common.{ℕ, ◌∙◌, ap}
 use Rattle.std.specs.Prelude.{Option}
 use Rattle.rl_presmap.specs.Newness.{both, number}
 use Rattle.rl_presmap.proofs.Numbers.{none_numbers, cut_numbers}

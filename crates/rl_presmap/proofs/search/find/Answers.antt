@@ -21,6 +21,6 @@ returns-else-at-held-clause-place c = λ rising.
     let at = c.place_of-at.result in
     missed_at key held at rising (c.place_of-at.ensures.place rising)
     (λ d low. elim c.else-at-held.branch [
-      else-at-held-via-then-at-held+else-is_of w ↦ ap (is_held_of key) (get_or_default held at d _ low ∙ sym w.index-held-at.is) ∙ (sym w.is_of.ensures ∙ w.if-is_of.false)
-    | else-at-held-via-else-at-held w ↦ absurd (omega (arith, low, w.if-at-held.false))
+      | else-at-held-via-then-at-held+else-is_of w ↦ ap (is_held_of key) (get_or_default held at d _ low ∙ sym w.index-held-at.is) ∙ (sym w.is_of.ensures ∙ w.if-is_of.false)
+      | else-at-held-via-else-at-held w ↦ absurd (omega (arith, low, w.if-at-held.false))
     ])
