@@ -40,7 +40,7 @@ slot_filter key test (h ∷ held) rising = by_tests (is_held_of key h) (test h) 
 other_key : (key : MemberKey) (item : PresenceItem) → is_of key item ≡ false → key_cmp key (key_of item) ≡ Equal → ⊥
 other_key key item apart e = clash (is_of key item) (of_equal key item e) apart
 
-slot_item : (key : MemberKey) (syncing : Bool) (item : PresenceItem) (held : List Held) → slot key (with_item syncing item held) ≡ slot_applied key syncing item (slot key held)
+pub slot_item : (key : MemberKey) (syncing : Bool) (item : PresenceItem) (held : List Held) → slot key (with_item syncing item held) ≡ slot_applied key syncing item (slot key held)
 slot_item key syncing item held = by_tests (is_absent item.action) (is_of key item) refl
   where
     by_tests : (a b : Bool) → is_of key item ≡ b

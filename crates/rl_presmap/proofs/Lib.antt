@@ -10,4 +10,5 @@ pub mod Loops
 pub mod Calls
 pub mod Ids
 pub mod Fresh
+pub mod Feeding
 pub mod Tried

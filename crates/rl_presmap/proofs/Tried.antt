@@ -1,6 +1,9 @@
 -- The examples are computed.
-use Rattle.std.proofs.Common.{refl}
-use Rattle.rl_presmap.specs.Examples.{IdsRead, NewnessIs, ItemsAreTaken, SyncsGo, PagesGo}
+use Rattle.std.proofs.Common.{refl, true≢false}
+use Rattle.std.specs.Fmt.{digits}
+use Rattle.std.specs.Str.{is_utf8, chars}
+use lib.Utf8.{encode}
+use Rattle.rl_presmap.specs.Examples.{IdsRead, NewnessIs, ItemsAreTaken, SyncsGo, PagesGo, OrderMatters}
 
 pub ids_read : IdsRead
 ids_read = record {
@@ -74,4 +77,14 @@ pages_go = record {
   another_opens = refl;
   no_cursor_goes_on = refl;
   told_in_order = refl;
+}
+
+pub order_matters : OrderMatters
+unfolding digits is_utf8 chars encode
+order_matters = record {
+  gone_before = λ orderly. true≢false orderly.0;
+  ids = refl;
+  first = refl;
+  last = refl;
+  older = refl;
 }

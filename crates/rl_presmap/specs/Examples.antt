@@ -1,6 +1,10 @@
 -- Small presence maps whose members and events are known, with which the definitions are tried.
-use Rattle.std.specs.Prelude.{◌≡◌, ℕ, true, false, List, [], ◌∷◌, Option, Some, None, codes}
+use Rattle.std.specs.Prelude.{◌≡◌, ℕ, true, false, map, find, reverse, List, [], ◌∷◌, Option, Some, None, codes}
 use Rattle.rl_types.specs.declared.frames.Cursor.{Cursor}
+use Rattle.rl_ids.specs.declared.members.MemberKey.{MemberKey}
+use Rattle.rl_types.specs.declared.channel.ChannelEvent.{ChannelEvent}
+use Rattle.rl_types.specs.declared.channel.ChannelEvent.TheVariants.{Put, Gone}
+use Rattle.rl_types.specs.declared.messages.Body.TheVariants.{Presence}
 use Rattle.rl_types.specs.declared.presence.PresenceItem.{PresenceItem}
 use Rattle.rl_types.specs.declared.presence.PresenceAction.{PresenceAction}
 use Rattle.rl_types.specs.declared.presence.PresenceAction.TheVariants as presence
@@ -9,6 +13,9 @@ use Rattle.rl_presmap.specs.declared.held.Standing.{Standing}
 use Rattle.rl_presmap.specs.declared.held.Standing.TheVariants as standing
 use Rattle.rl_presmap.specs.declared.held.SyncState.TheVariants.{Closed, Opened, Numbered}
 use Rattle.rl_presmap.specs.declared.events.PresenceEvent.TheVariants.{Entered, Updated, Left}
+use Rattle.rl_model.specs.Members.{is_of, items_of}
+use Rattle.rl_model.specs.Verdict.{log}
+use Rattle.rl_presmap.specs.Renewing.{IsOrderly, items_of_key}
 use Rattle.rl_presmap.specs.Newness.{numbers_of, is_newer}
 use Rattle.rl_presmap.specs.Held.{PresenceMap}
 use Rattle.rl_presmap.specs.Steps.{applied, event_of, opened, ended, end_events, page_taken, page_events, members}
@@ -136,3 +143,31 @@ pub record PagesGo : Type 0 where
   pub no_cursor_goes_on : members (page_taken None [] (page_taken (page_at (codes "1") (codes "1")) (present entering ∷ []) one_member))
       ≡ present entering ∷ []
   pub told_in_order : page_events (page_at (codes "1") []) (updating ∷ []) two_members ≡ Updated updating ∷ Left b_entering ∷ []
+
+-- WHY HISTORIES HAVE TO BE ORDERLY
+
+-- a client enters by a serial, as a Put gives it
+abbrev pub put_of : ℕ → ℕ → ChannelEvent
+put_of serial now = Put 1 serial (Presence (item_of presence.Enter [] 0 [] ∷ [])) now
+
+-- connection 1 puts, is gone for good, and puts once more, from serial 0 on
+abbrev pub disorderly : List ChannelEvent
+disorderly = put_of 0 2 ∷ Gone 1 1 ∷ put_of 5 0 ∷ []
+
+abbrev pub site : List ℕ
+site = codes "s1"
+
+-- as the log has it
+abbrev pub entered_by : List ℕ → ℕ → PresenceItem
+entered_by id stamp = record (item_of presence.Enter id stamp []) { conn = codes "c00000001" }
+
+abbrev pub the_key : MemberKey
+the_key = record { conn = codes "c00000001"; client = codes "a" }
+
+-- the last item of the key is not newer than the first
+pub record OrderMatters : Type 0 where
+  pub gone_before : IsOrderly site disorderly → ⊥
+  pub ids : map (λ item. item.id) (items_of_key the_key (log site disorderly)) ≡ codes "c00000001:5:0" ∷ codes "gone:2:0" ∷ codes "c00000001:0:0" ∷ []
+  pub first : find (is_of the_key) (items_of (log site disorderly)) ≡ Some (entered_by (codes "c00000001:5:0") 0)
+  pub last : find (is_of the_key) (reverse (items_of (log site disorderly))) ≡ Some (entered_by (codes "c00000001:0:0") 2)
+  pub older : is_newer (entered_by (codes "c00000001:0:0") 2) (entered_by (codes "c00000001:5:0") 0) ≡ false

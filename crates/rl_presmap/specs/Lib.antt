@@ -4,4 +4,5 @@ pub mod Steps
 pub mod Soundness
 pub mod ByKey
 pub mod Renewing
+pub mod Fed
 pub mod Examples

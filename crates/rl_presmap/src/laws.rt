@@ -1,6 +1,7 @@
 //! Laws over the definitions alone. Each is a function that does nothing: its contract is the law.
 ghost use Rattle.rl_presmap.specs.ByKey.{AllGoByKey};
-ghost use Rattle.rl_presmap.specs.Examples.{IdsRead, NewnessIs, ItemsAreTaken, SyncsGo, PagesGo};
+ghost use Rattle.rl_presmap.specs.Examples.{IdsRead, NewnessIs, ItemsAreTaken, SyncsGo, PagesGo, OrderMatters};
+ghost use Rattle.rl_presmap.specs.Fed.{FedMapsHoldMembers};
 ghost use Rattle.rl_presmap.specs.Renewing.{OrderlyLogsRenew};
 ghost use Rattle.rl_presmap.specs.Soundness.{MapsStaySound};
 
@@ -37,4 +38,17 @@ pub fn examples_of_maps()
 /// key is newer than each before it. A map that takes the newer one so ends with the last. (That histories are orderly is this project's own.)
 pub fn orderly_logs_renew()
     ensures { OrderlyLogsRenew }
+{}
+
+/// Without that order it fails: where a connection puts again after it was gone for good, the last item of a key can be
+/// older than one before it.
+#[tactic(auto, using(crate::proofs::Tried::order_matters))]
+pub fn examples_of_order()
+    ensures { OrderMatters }
+{}
+
+/// A map that takes up each item of such a log, in order, from nothing and with no sync open, has the log's members: of
+/// each key the member of the map is that of the log, as PRESENT.
+pub fn fed_maps_hold_members()
+    ensures { FedMapsHoldMembers }
 {}
