@@ -56,7 +56,7 @@ slot key held = find (is_held_of key) held
 
 -- this at the key, between what is held of the keys before it and of those behind it
 abbrev pub with_slot : MemberKey → Option Held → List Held → List Held
-with_slot key slot held = filter (is_before key) held ++ (option_to_list slot ++ filter (is_behind key) held)
+with_slot key one held = filter (is_before key) held ++ (option_to_list one ++ filter (is_behind key) held)
 
 -- each key comes before those of all later ones
 abbrev pub AreRising : List Held → Type 0

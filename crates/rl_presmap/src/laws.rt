@@ -35,7 +35,7 @@ pub fn examples_of_maps()
 
 /// In the log of an orderly history, in which no Put of a connection adds after a Gone of it, each item of a key is newer
 /// than all earlier ones of that key, and none of these is newer than an ENTER or UPDATE after it. So the last item of a
-/// key is newer than each before it. A map that takes the newer one so ends with the last. (That histories are orderly is this project's own.)
+/// key is newer than each before it. (What is orderly is this project's own.)
 pub fn orderly_logs_renew()
     ensures { OrderlyLogsRenew }
 {}

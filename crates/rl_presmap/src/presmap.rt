@@ -19,7 +19,9 @@ use std::marker::Model;
 use std::mem;
 
 /// What a client holds of a channel's members (RTP2). A contract sees it as the items that are held, in order of key,
-/// each with how it stands, and the sync that is open.
+/// each with how it stands, and the sync that is open; what each call makes of that is one definition of
+/// `specs/Steps.antt`, and what it makes of one key by itself is said by
+/// [`all_go_by_key`](crate::laws::all_go_by_key).
 ///
 /// What is held of a key is a member; or, where a sync is open, a *residual* member, which no item has named since the
 /// sync opened; or an ABSENT one, which left since then. Residual members are members until the sync ends. A key is a
