@@ -1,0 +1,14 @@
+pub mod Keys
+pub mod Places
+pub mod Numbers
+pub mod Slots
+pub mod Sound
+pub mod Steady
+pub mod ByKey
+pub mod Taken
+pub mod Loops
+pub mod Calls
+pub mod Ids
+pub mod Fresh
+pub mod Feeding
+pub mod Tried
