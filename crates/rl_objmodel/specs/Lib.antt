@@ -1,0 +1,6 @@
+pub mod Operations
+pub mod Held
+pub mod Objects
+pub mod Rules
+pub mod Steps
+pub mod Examples

@@ -1,0 +1,337 @@
+-- What one operation makes of the objects that are held: the form that the machines cite.
+use Rattle.std.specs.Prelude.{ℕ, suc, Bool, true, false, ◌&&◌, ◌||◌, not, if◌then◌else◌, nat_lt, List, [], ◌∷◌, filter, filter_map, find, map, Option, Some, None, is_none, is_some, option_map, unwrap_or, bytes_eq, ℤ, pos, ◌+ℤ◌, unsigned_abs}
+use Rattle.std.specs.Option.{option_map_or}
+use Rattle.std.specs.List.{list_any}
+use Rattle.std.specs.Ordering.{nat_cmp, match_ordering}
+use Rattle.std.specs.Cmp.Lexicographic.{slice_cmp}
+use Rattle.rl_numbers.specs.declared.limits.TheConstants.{MAX_COUNTER_SUM}
+use Rattle.rl_ids.specs.declared.objects.ObjectId.{ObjectId}
+use Rattle.rl_ids.specs.declared.objects.MapValue.{MapValue}
+use Rattle.rl_ids.specs.declared.serials.OpSerial.{OpSerial}
+use Rattle.rl_ids.specs.Objects.{id_cmp, kind_of, is_below, same_id}
+use Rattle.rl_types.specs.declared.objects.Op.{Op}
+use Rattle.rl_types.specs.declared.objects.Op.TheVariants.{MapCreate, MapSet, MapRemove, CounterCreate, CounterInc, Delete}
+use Rattle.rl_types.specs.declared.objects.ObjectOp.{ObjectOp}
+use Rattle.rl_types.specs.declared.objects.MapCell.{MapCell}
+use Rattle.rl_types.specs.declared.objects.ObjectBody.{ObjectBody}
+use Rattle.rl_types.specs.declared.objects.ObjectBody.TheVariants as bodies
+use Rattle.rl_types.specs.declared.objects.ObjectState.{ObjectState}
+use Rattle.rl_objmodel.specs.declared.plain.Applied.{Applied}
+use Rattle.rl_objmodel.specs.declared.plain.Applied.TheVariants as outcomes
+use Rattle.rl_objmodel.specs.Operations.{id_in, suits, is_root}
+use Rattle.rl_objmodel.specs.Held.{Written, Value, Removed, Write, value_written, removal, value_in, Cells, is_collected, is_collected_write, HeldBody, Sum, Keys, Held, empty_body, shown}
+use Rattle.rl_objmodel.specs.Objects.{greater, greater_serial, read_value}
+use Rattle.rl_objmodel.specs.Rules.{Setting, or_next, op_rule, serial_at, with_serial}
+
+-- SITES (RTO9)
+
+-- the serial that a site has
+abbrev pub site_serial : List ℕ → List (List ℕ × OpSerial) → Option OpSerial
+site_serial site [] = None
+site_serial site (one ∷ sites) = if bytes_eq site one.0 then Some one.1 else site_serial site sites
+
+-- a serial is greater than this one, or there is none
+abbrev pub is_above : Option OpSerial → OpSerial → Bool
+is_above None serial = true
+is_above (Some last) serial = is_below last serial
+
+-- the site test: the operation's site has no serial, or a smaller one
+abbrev pub passes : OpSerial → List (List ℕ × OpSerial) → Bool
+passes serial sites = is_above (site_serial serial.site sites) serial
+
+-- the sites, in order, with this serial as a site's
+abbrev pub with_site : List ℕ → OpSerial → List (List ℕ × OpSerial) → List (List ℕ × OpSerial)
+with_site site serial [] = (site, serial) ∷ []
+with_site site serial (one ∷ sites) =
+    match_ordering (slice_cmp nat_cmp site one.0) ((site, serial) ∷ one ∷ sites) ((site, serial) ∷ sites) (one ∷ with_site site serial sites)
+
+-- sites in any order, put in order; of one site the greatest serial
+abbrev pub sites_of : List (List ℕ × OpSerial) → List (List ℕ × OpSerial)
+sites_of [] = []
+sites_of (one ∷ sites) = with_site one.0 (greater_serial (site_serial one.0 (sites_of sites)) one.1) (sites_of sites)
+
+-- A COUNTER'S SUM (RTLC)
+
+-- an amount that is added: the sum passes its range, or it does not
+abbrev pub is_past_range : ℤ → Bool
+is_past_range sum = nat_lt (unsigned_abs MAX_COUNTER_SUM) (unsigned_abs sum)
+
+-- what an operation adds to a counter, by whether it was created: a create adds its count once
+abbrev pub added : Op → Bool → Option ℤ
+added (CounterCreate id count) true = None
+added (CounterCreate id count) false = Some count
+added (CounterInc id amount) created = Some amount
+added _ created = None
+
+abbrev pub sum_after : ℤ → Option ℤ → ℤ
+sum_after sum None = sum
+sum_after sum (Some amount) = sum +ℤ amount
+
+-- it adds something, and the sum would pass its range
+abbrev pub passes_range : ℤ → Option ℤ → Bool
+passes_range sum None = false
+passes_range sum (Some amount) = is_past_range (sum +ℤ amount)
+
+abbrev pub is_counter_create : Op → Bool
+is_counter_create (CounterCreate id count) = true
+is_counter_create _ = false
+
+abbrev pub is_counter_op : Op → Bool
+is_counter_op (CounterCreate id count) = true
+is_counter_op (CounterInc id amount) = true
+is_counter_op _ = false
+
+-- a counter that is held
+pub record Tally : Type 0 where
+  pub sites : List (List ℕ × OpSerial)
+  pub created : Bool
+  pub sum : ℤ
+
+abbrev pub zero_tally : Tally
+zero_tally = record { sites = []; created = false; sum = pos 0 }
+
+-- what becomes of an operation on a counter
+abbrev pub tally_outcome : OpSerial → Op → Tally → Applied
+tally_outcome serial op tally =
+    if not (passes serial tally.sites) then outcomes.Skipped
+    else if passes_range tally.sum (added op tally.created) then outcomes.Range
+    else outcomes.Applied
+
+-- a counter to which an operation was applied
+abbrev pub tally_with : OpSerial → Op → Tally → Tally
+tally_with serial op tally =
+    record {
+      sites = with_site serial.site serial tally.sites;
+      created = is_counter_create op || tally.created;
+      sum = sum_after tally.sum (added op tally.created);
+    }
+
+abbrev pub tally_if : Applied → Tally → Tally → Tally
+tally_if outcomes.Applied new old = new
+tally_if _ new old = old
+
+-- what it makes of a counter: one that is not applied changes nothing
+abbrev pub tally_after : OpSerial → Op → Tally → Tally
+tally_after serial op tally = tally_if (tally_outcome serial op tally) (tally_with serial op tally) tally
+
+-- THE CELLS OF A MAP (RTLM)
+
+-- what stands at a key
+abbrev pub write_at : List ℕ → Cells → Option Write
+write_at key [] = None
+write_at key (cell ∷ cells) = if bytes_eq key cell.0 then Some cell.1 else write_at key cells
+
+-- a write of this serial changes what stands at a key: nothing stands there, or what has a smaller serial
+abbrev pub changes : List ℕ → OpSerial → Cells → Bool
+changes key serial cells = is_above (option_map (λ (w : Write). w.serial) (write_at key cells)) serial
+
+-- the cells, in order, with a write at a key; of two writes at one key the one of the greater serial stays
+abbrev pub with_write : List ℕ → Write → Cells → Cells
+with_write key write [] = (key, write) ∷ []
+with_write key write (cell ∷ cells) =
+    match_ordering (slice_cmp nat_cmp key cell.0)
+    ((key, write) ∷ cell ∷ cells)
+    ((cell.0, greater (Some cell.1) write) ∷ cells)
+    (cell ∷ with_write key write cells)
+
+-- with several writes, one after another
+abbrev pub with_writes : Cells → Cells → Cells
+with_writes [] cells = cells
+with_writes (one ∷ more) cells = with_writes more (with_write one.0 one.1 cells)
+
+-- what a create writes
+abbrev pub entry_write : OpSerial → List ℕ × MapValue → List ℕ × Write
+entry_write serial entry = (entry.0, value_written serial entry.1)
+
+abbrev pub entry_writes : OpSerial → List (List ℕ × MapValue) → Cells
+entry_writes serial entries = map (entry_write serial) entries
+
+-- one of these entries changes what stands at its key
+abbrev pub any_changes : OpSerial → List (List ℕ × MapValue) → Cells → Bool
+any_changes serial entries cells = list_any (λ (entry : List ℕ × MapValue). changes entry.0 serial cells) entries
+
+-- what a page told: a tombstone cell has the moment at which it was told
+abbrev pub told_written : ℕ → Option MapValue → Written
+told_written now None = Removed now
+told_written now (Some value) = Value value
+
+abbrev pub told_write : ℕ → List ℕ × MapCell → List ℕ × Write
+told_write now cell = (cell.0, record { serial = cell.1.serial; written = told_written now cell.1.value })
+
+abbrev pub told_cells : ℕ → List (List ℕ × MapCell) → Cells
+told_cells now cells = with_writes (map (told_write now) cells) []
+
+-- without the tombstone cells that are collected
+abbrev pub collected_cells : ℕ → Cells → Cells
+collected_cells now cells = filter (λ (cell : List ℕ × Write). not (is_collected_write now cell.1.written)) cells
+
+-- a map that is held
+pub record MapHeld : Type 0 where
+  pub created : Bool
+  pub cells : Cells
+
+abbrev pub empty_map : MapHeld
+empty_map = record { created = false; cells = [] }
+
+-- a map's create is merged once
+abbrev pub merged : OpSerial → List (List ℕ × MapValue) → MapHeld → MapHeld
+merged serial entries held =
+    if held.created then held else record { created = true; cells = with_writes (entry_writes serial entries) held.cells }
+
+-- AN OBJECT
+
+abbrev pub on_cells : (Cells → Cells) → HeldBody → HeldBody
+on_cells change (Sum sum) = Sum sum
+on_cells change (Keys cells) = Keys (change cells)
+
+abbrev pub on_sum : (ℤ → ℤ) → HeldBody → HeldBody
+on_sum change (Sum sum) = Sum (change sum)
+on_sum change (Keys cells) = Keys cells
+
+abbrev pub body_passes_range : HeldBody → Option ℤ → Bool
+body_passes_range (Sum sum) more = passes_range sum more
+body_passes_range (Keys cells) more = false
+
+-- it is for another kind than the object's, whose kind is that of its id
+abbrev pub is_misplaced : Op → Held → Bool
+is_misplaced op held = not (suits (kind_of held.id) op)
+
+-- what becomes of an operation on an object. A tombstone takes its serial, and nothing more
+abbrev pub outcome : OpSerial → Op → Held → Applied
+outcome serial op held =
+    if is_misplaced op held || not (passes serial held.sites) then outcomes.Skipped
+    else if is_none held.deleted && body_passes_range held.body (added op held.created) then outcomes.Range
+    else outcomes.Applied
+
+-- what it makes of an object that stands, but for the sites
+abbrev pub acted : ℕ → OpSerial → Op → Held → Held
+acted stamp serial (MapCreate id entries) held =
+    if held.created then held else record held { created = true; body = on_cells (with_writes (entry_writes serial entries)) held.body }
+acted stamp serial (MapSet id key value) held = record held { body = on_cells (with_write key (value_written serial value)) held.body }
+acted stamp serial (MapRemove id key) held = record held { body = on_cells (with_write key (removal serial stamp)) held.body }
+acted stamp serial (CounterCreate id count) held =
+    if held.created then held else record held { created = true; body = on_sum (λ sum. sum +ℤ count) held.body }
+acted stamp serial (CounterInc id amount) held = record held { body = on_sum (λ sum. sum +ℤ amount) held.body }
+acted stamp serial (Delete id) held = record held { deleted = Some stamp; created = false; body = empty_body (kind_of held.id) }
+
+-- what it makes of an object: of a tombstone nothing but a site's serial
+abbrev pub held_with : ℕ → OpSerial → Op → Held → Held
+held_with stamp serial op held =
+    record (if is_some held.deleted then held else acted stamp serial op held) { sites = with_site serial.site serial held.sites }
+
+-- ALL OBJECTS
+
+-- an object that is missing is made by its id's kind, empty and not created
+abbrev pub new_held : ObjectId → Held
+new_held id = record { id = id; sites = []; deleted = None; created = false; body = empty_body (kind_of id) }
+
+abbrev pub is_held_as : ObjectId → Held → Bool
+is_held_as id held = same_id id held.id
+
+abbrev pub held_at : ObjectId → List Held → Option Held
+held_at id pool = find (is_held_as id) pool
+
+abbrev pub target : ObjectId → List Held → Held
+target id pool = unwrap_or (held_at id pool) (new_held id)
+
+-- the objects, in order of id, with this one in place of its id's, or among them
+abbrev pub with_held : Held → List Held → List Held
+with_held held [] = held ∷ []
+with_held held (other ∷ pool) =
+    match_ordering (id_cmp held.id other.id) (held ∷ other ∷ pool) (held ∷ pool) (other ∷ with_held held pool)
+
+-- what becomes of an operation; one without a serial is passed over
+abbrev pub pool_outcome_by : Option OpSerial → Op → List Held → Applied
+pool_outcome_by None op pool = outcomes.Skipped
+pool_outcome_by (Some serial) op pool = outcome serial op (target (id_in op) pool)
+
+abbrev pub pool_outcome : ObjectOp → List Held → Applied
+pool_outcome op pool = pool_outcome_by op.serial op.op pool
+
+abbrev pub pool_if : Applied → List Held → List Held → List Held
+pool_if outcomes.Applied new old = new
+pool_if _ new old = old
+
+abbrev pub pool_with : ℕ → Option OpSerial → Op → List Held → List Held
+pool_with stamp None op pool = pool
+pool_with stamp (Some serial) op pool = with_held (held_with stamp serial op (target (id_in op) pool)) pool
+
+-- what an operation with this stamp makes of all objects: one that is not applied changes nothing
+abbrev pub pool_after_op : ℕ → ObjectOp → List Held → List Held
+pool_after_op stamp op pool = pool_if (pool_outcome op pool) (pool_with stamp op.serial op.op pool) pool
+
+-- several operations, one after another
+abbrev pub pool_after : ℕ → List ObjectOp → List Held → List Held
+pool_after stamp [] pool = pool
+pool_after stamp (op ∷ ops) pool = pool_after stamp ops (pool_after_op stamp op pool)
+
+abbrev pub pool_outcomes : ℕ → List ObjectOp → List Held → List Applied
+pool_outcomes stamp [] pool = []
+pool_outcomes stamp (op ∷ ops) pool = pool_outcome op pool ∷ pool_outcomes stamp ops (pool_after_op stamp op pool)
+
+-- A TICK
+
+abbrev pub collected_body : ℕ → HeldBody → HeldBody
+collected_body now (Sum sum) = Sum sum
+collected_body now (Keys cells) = Keys (collected_cells now cells)
+
+-- a tombstone goes; the root never does
+abbrev pub is_gone : ℕ → Held → Bool
+is_gone now held = not (is_root held.id) && option_map_or (is_collected now) held.deleted false
+
+abbrev pub collected_held : ℕ → Held → Option Held
+collected_held now held = if is_gone now held then None else Some (record held { body = collected_body now held.body })
+
+-- what a Tick leaves
+abbrev pub collected : ℕ → List Held → List Held
+collected now pool = filter_map (collected_held now) pool
+
+-- RULES
+
+-- what a page would show of an object
+abbrev pub state_at : List Held → ObjectId → Option ObjectState
+state_at pool id = option_map shown (held_at id pool)
+
+abbrev pub states : List Held → List ObjectState
+states pool = map shown pool
+
+abbrev pub numbered : Setting → ℕ → ℕ → ObjectOp → ObjectOp
+numbered setting place index op = with_serial (serial_at setting.site place index) op
+
+-- the code of the first rule that operations break, as `ops_rule` says it of the operations that left these objects
+abbrev pub pool_ops_rule : Setting → ℕ → ℕ → List Held → List ObjectOp → Option ℕ
+pool_ops_rule setting place index pool [] = None
+pool_ops_rule setting place index pool (op ∷ ops) =
+    or_next (op_rule setting.now (state_at pool) (states (pool_after_op setting.now (numbered setting place index op) pool)) op.op)
+    (pool_ops_rule setting place (suc index) (pool_after_op setting.now (numbered setting place index op) pool) ops)
+
+-- WHAT IS LIVE
+
+-- the root, and each object that was created and not deleted
+abbrev pub is_live_held : Held → Bool
+is_live_held held = is_root held.id || held.created && is_none held.deleted
+
+abbrev pub lives_in : List Held → ObjectId → Bool
+lives_in pool id = option_map_or is_live_held (held_at id pool) false
+
+-- a key that reads as absent is left out
+abbrev pub read_cell : (ObjectId → Bool) → List ℕ × Write → Option (List ℕ × MapCell)
+read_cell lives cell =
+    option_map (λ (value : MapValue). (cell.0, record { serial = cell.1.serial; value = Some value })) (read_value lives (value_in cell.1.written))
+
+abbrev pub read_body : (ObjectId → Bool) → HeldBody → ObjectBody
+read_body lives (Sum sum) = bodies.Counter sum
+read_body lives (Keys cells) = bodies.Map (filter_map (read_cell lives) cells)
+
+-- the live objects, in order of id
+abbrev pub live_states : List Held → List ObjectState
+live_states pool = map (λ (held : Held). record (shown held) { body = read_body (lives_in pool) held.body }) (filter is_live_held pool)
+
+-- the pool is an empty root
+abbrev pub has_no_cell : HeldBody → Bool
+has_no_cell (Keys []) = true
+has_no_cell _ = false
+
+abbrev pub is_bare : List Held → Bool
+is_bare (held ∷ []) = is_root held.id && has_no_cell held.body
+is_bare _ = false

@@ -1,0 +1,68 @@
+//! Laws over the definitions alone. Each is a function that does nothing: its contract is the law.
+ghost use Rattle.rl_objmodel.specs.Examples.{CountersCount, CellsAreGreatest, LengthsAreBounded, TargetsAreJudged, ReferencesAreJudged, NumbersAreBounded, PoolsAreBounded, TombstonesAreCollected, LiveObjectsRead, StepsAreDefined, StepsAreTaken};
+
+/// What counters have: the count of their create, and the amounts of their increments.
+#[tactic(auto, using(crate::proofs::Worked::counters_count))]
+pub fn counters_count()
+    ensures { CountersCount }
+{}
+
+/// What stands at a key: the write of the greatest serial, and of one serial the first.
+#[tactic(auto, using(crate::proofs::Worked::cells_are_greatest))]
+pub fn cells_are_greatest()
+    ensures { CellsAreGreatest }
+{}
+
+/// Keys, texts and bytes at the greatest length, and one byte longer.
+#[tactic(auto, using(crate::proofs::Worked::lengths_are_bounded))]
+pub fn lengths_are_bounded()
+    ensures { LengthsAreBounded }
+{}
+
+/// Each fault of an operation's target, beside targets that are in order.
+#[tactic(auto, using(crate::proofs::Worked::targets_are_judged))]
+pub fn targets_are_judged()
+    ensures { TargetsAreJudged }
+{}
+
+/// References to objects that are there, that are not, to tombstones, and to what the frame itself makes.
+#[tactic(auto, using(crate::proofs::Worked::references_are_judged))]
+pub fn references_are_judged()
+    ensures { ReferencesAreJudged }
+{}
+
+/// Numbers at the ends of their range, and one beyond.
+#[tactic(auto, using(crate::proofs::Worked::numbers_are_bounded))]
+pub fn numbers_are_bounded()
+    ensures { NumbersAreBounded }
+{}
+
+/// Objects, cells and weights at their limits, and one beyond.
+#[tactic(auto, using(crate::proofs::Worked::pools_are_bounded))]
+pub fn pools_are_bounded()
+    ensures { PoolsAreBounded }
+{}
+
+/// Tombstones and tombstone cells at the last moment before their grace is over, and when it is.
+#[tactic(auto, using(crate::proofs::Worked::tombstones_are_collected))]
+pub fn tombstones_are_collected()
+    ensures { TombstonesAreCollected }
+{}
+
+/// What reads as absent.
+#[tactic(auto, using(crate::proofs::Worked::live_objects_read))]
+pub fn live_objects_read()
+    ensures { LiveObjectsRead }
+{}
+
+/// On small logs, what the steps make of the operations is what the definitions say of the log.
+#[tactic(auto, using(crate::proofs::Worked::steps_are_defined))]
+pub fn steps_are_defined()
+    ensures { StepsAreDefined }
+{}
+
+/// What becomes of operations that come twice, late, for another kind, or to a tombstone.
+#[tactic(auto, using(crate::proofs::Worked::steps_are_taken))]
+pub fn steps_are_taken()
+    ensures { StepsAreTaken }
+{}
