@@ -1,3 +1,4 @@
+pub mod Places
 pub mod Operations
 pub mod Held
 pub mod Objects

@@ -18,17 +18,13 @@ use Rattle.rl_types.specs.declared.objects.ObjectBody.TheVariants as bodies
 use Rattle.rl_types.specs.declared.objects.ObjectState.{ObjectState}
 use Rattle.rl_objmodel.specs.declared.plain.Applied.{Applied}
 use Rattle.rl_objmodel.specs.declared.plain.Applied.TheVariants as outcomes
+use Rattle.rl_objmodel.specs.Places.{at_text, with_at}
 use Rattle.rl_objmodel.specs.Operations.{id_in, suits, is_root}
 use Rattle.rl_objmodel.specs.Held.{Written, Value, Removed, Write, value_written, removal, value_in, Cells, is_collected, is_collected_write, HeldBody, Sum, Keys, Held, empty_body, shown}
 use Rattle.rl_objmodel.specs.Objects.{greater, greater_serial, read_value}
-use Rattle.rl_objmodel.specs.Rules.{Setting, or_next, op_rule, serial_at, with_serial}
+use Rattle.rl_objmodel.specs.Rules.{Setting, or_next, op_rule, serial_at, with_serial, sum_held}
 
 -- SITES (RTO9)
-
--- the serial that a site has
-abbrev pub site_serial : List ℕ → List (List ℕ × OpSerial) → Option OpSerial
-site_serial site [] = None
-site_serial site (one ∷ sites) = if bytes_eq site one.0 then Some one.1 else site_serial site sites
 
 -- a serial is greater than this one, or there is none
 abbrev pub is_above : Option OpSerial → OpSerial → Bool
@@ -37,18 +33,23 @@ is_above (Some last) serial = is_below last serial
 
 -- the site test: the operation's site has no serial, or a smaller one
 abbrev pub passes : OpSerial → List (List ℕ × OpSerial) → Bool
-passes serial sites = is_above (site_serial serial.site sites) serial
+passes serial sites = is_above (at_text serial.site sites) serial
 
--- the sites, in order, with this serial as a site's
-abbrev pub with_site : List ℕ → OpSerial → List (List ℕ × OpSerial) → List (List ℕ × OpSerial)
-with_site site serial [] = (site, serial) ∷ []
-with_site site serial (one ∷ sites) =
-    match_ordering (slice_cmp nat_cmp site one.0) ((site, serial) ∷ one ∷ sites) ((site, serial) ∷ sites) (one ∷ with_site site serial sites)
+-- the sites with this serial as that of its site
+abbrev pub with_site : OpSerial → List (List ℕ × OpSerial) → List (List ℕ × OpSerial)
+with_site serial sites = with_at serial.site serial sites
 
--- sites in any order, put in order; of one site the greatest serial
+-- a site as it was told, where it has no greater serial
+abbrev pub with_told_site : List ℕ × OpSerial → List (List ℕ × OpSerial) → List (List ℕ × OpSerial)
+with_told_site one sites = with_at one.0 (greater_serial (at_text one.0 sites) one.1) sites
+
+-- sites in whatever order they were told, put in order; of one site the greatest serial stays
+abbrev pub told_sites : List (List ℕ × OpSerial) → List (List ℕ × OpSerial) → List (List ℕ × OpSerial)
+told_sites [] sites = sites
+told_sites (one ∷ more) sites = told_sites more (with_told_site one sites)
+
 abbrev pub sites_of : List (List ℕ × OpSerial) → List (List ℕ × OpSerial)
-sites_of [] = []
-sites_of (one ∷ sites) = with_site one.0 (greater_serial (site_serial one.0 (sites_of sites)) one.1) (sites_of sites)
+sites_of told = told_sites told []
 
 -- A COUNTER'S SUM (RTLC)
 
@@ -90,6 +91,10 @@ pub record Tally : Type 0 where
 abbrev pub zero_tally : Tally
 zero_tally = record { sites = []; created = false; sum = pos 0 }
 
+-- the sum that an operation makes, where it does not pass its range
+abbrev pub sum_made : ℤ → Option ℤ → Option ℤ
+sum_made sum more = if passes_range sum more then None else Some (sum_after sum more)
+
 -- what becomes of an operation on a counter
 abbrev pub tally_outcome : OpSerial → Op → Tally → Applied
 tally_outcome serial op tally =
@@ -101,7 +106,7 @@ tally_outcome serial op tally =
 abbrev pub tally_with : OpSerial → Op → Tally → Tally
 tally_with serial op tally =
     record {
-      sites = with_site serial.site serial tally.sites;
+      sites = with_site serial tally.sites;
       created = is_counter_create op || tally.created;
       sum = sum_after tally.sum (added op tally.created);
     }
@@ -116,23 +121,13 @@ tally_after serial op tally = tally_if (tally_outcome serial op tally) (tally_wi
 
 -- THE CELLS OF A MAP (RTLM)
 
--- what stands at a key
-abbrev pub write_at : List ℕ → Cells → Option Write
-write_at key [] = None
-write_at key (cell ∷ cells) = if bytes_eq key cell.0 then Some cell.1 else write_at key cells
-
 -- a write of this serial changes what stands at a key: nothing stands there, or what has a smaller serial
 abbrev pub changes : List ℕ → OpSerial → Cells → Bool
-changes key serial cells = is_above (option_map (λ (w : Write). w.serial) (write_at key cells)) serial
+changes key serial cells = is_above (option_map (λ (w : Write). w.serial) (at_text key cells)) serial
 
--- the cells, in order, with a write at a key; of two writes at one key the one of the greater serial stays
+-- the cells with a write at a key; of two writes at one key the one of the greater serial stays
 abbrev pub with_write : List ℕ → Write → Cells → Cells
-with_write key write [] = (key, write) ∷ []
-with_write key write (cell ∷ cells) =
-    match_ordering (slice_cmp nat_cmp key cell.0)
-    ((key, write) ∷ cell ∷ cells)
-    ((cell.0, greater (Some cell.1) write) ∷ cells)
-    (cell ∷ with_write key write cells)
+with_write key write cells = with_at key (greater (at_text key cells) write) cells
 
 -- with several writes, one after another
 abbrev pub with_writes : Cells → Cells → Cells
@@ -157,6 +152,9 @@ told_written now (Some value) = Value value
 
 abbrev pub told_write : ℕ → List ℕ × MapCell → List ℕ × Write
 told_write now cell = (cell.0, record { serial = cell.1.serial; written = told_written now cell.1.value })
+
+abbrev pub with_told : ℕ → List ℕ × MapCell → Cells → Cells
+with_told now cell cells = with_write (told_write now cell).0 (told_write now cell).1 cells
 
 abbrev pub told_cells : ℕ → List (List ℕ × MapCell) → Cells
 told_cells now cells = with_writes (map (told_write now) cells) []
@@ -217,7 +215,7 @@ acted stamp serial (Delete id) held = record held { deleted = Some stamp; create
 -- what it makes of an object: of a tombstone nothing but a site's serial
 abbrev pub held_with : ℕ → OpSerial → Op → Held → Held
 held_with stamp serial op held =
-    record (if is_some held.deleted then held else acted stamp serial op held) { sites = with_site serial.site serial held.sites }
+    record (if is_some held.deleted then held else acted stamp serial op held) { sites = with_site serial held.sites }
 
 -- ALL OBJECTS
 
@@ -285,6 +283,35 @@ collected_held now held = if is_gone now held then None else Some (record held {
 -- what a Tick leaves
 abbrev pub collected : ℕ → List Held → List Held
 collected now pool = filter_map (collected_held now) pool
+
+-- WHAT A PAGE TOLD
+
+abbrev pub is_counter_body : ObjectBody → Bool
+is_counter_body (bodies.Counter sum) = true
+is_counter_body (bodies.Map cells) = false
+
+-- a counter as a page told it
+abbrev pub loaded_tally : ObjectState → Tally
+loaded_tally state = record { sites = sites_of state.sites; created = state.created; sum = sum_held state.body }
+
+-- a map as a page told it
+abbrev pub loaded_map : ℕ → Bool → List (List ℕ × MapCell) → MapHeld
+loaded_map now created cells = record { created = created; cells = told_cells now cells }
+
+abbrev pub told_body : ℕ → ObjectBody → HeldBody
+told_body now (bodies.Counter sum) = Sum sum
+told_body now (bodies.Map cells) = Keys (told_cells now cells)
+
+-- an object as a page told it; a tombstone has the moment at which it was told
+abbrev pub told_held : ℕ → ObjectState → Held
+told_held now state =
+    record {
+      id = state.id;
+      sites = sites_of state.sites;
+      deleted = if state.tombstone then Some now else None;
+      created = state.created;
+      body = told_body now state.body;
+    }
 
 -- RULES
 
