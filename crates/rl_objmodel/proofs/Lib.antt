@@ -1,3 +1,6 @@
 pub mod Worked
 pub mod PlacesHeld
 pub mod PlacesFound
+pub mod CommutingOps
+pub mod CollectingTwice
+pub mod AgreeingLists

@@ -136,5 +136,6 @@ steps_are_taken = record {
   greatest = refl;
   either = refl;
   told = refl;
+  replaces = refl;
   sites = refl;
 }

@@ -19,7 +19,7 @@ use Rattle.rl_objmodel.specs.Operations.{Stamped, stamped_at}
 use Rattle.rl_objmodel.specs.Held.{Write, value_written, removal, HeldBody, Sum, Keys, Held, bare_root, shown}
 use Rattle.rl_objmodel.specs.Objects.{counter, cell, LiveBody, Count, Entries, LiveObject, objects, kept, all_kept, kept_objects}
 use Rattle.rl_objmodel.specs.Rules.{Setting, serial_at, with_serial, ops_rule, pool_rule}
-use Rattle.rl_objmodel.specs.Steps.{pool_after, pool_after_op, pool_outcome, pool_outcomes, pool_ops_rule, collected, live_states, told_cells, sites_of, states, Tally, tally_outcome, tally_after}
+use Rattle.rl_objmodel.specs.Steps.{pool_after, pool_after_op, pool_outcome, pool_outcomes, pool_ops_rule, collected, live_states, told_cells, sites_of, replaced, states, Tally, tally_outcome, tally_after}
 
 abbrev pub s1 : List ℕ
 s1 = codes "s1"
@@ -244,6 +244,10 @@ applied_to pool ops = pool_outcomes 0 ops pool
 abbrev pub two_sites : ObjectOp
 two_sites = op_at s2 4 (MapSet Root k (text s2))
 
+-- as a page tells it
+abbrev pub told_counter : ℕ → ObjectState
+told_counter sum = shown (held_counter s1 1 (pos sum))
+
 pub record StepsAreTaken : Type 0 where
   -- a site's serial has to be greater than the one that it has; another site's does not
   pub equal : applied_to (held_counter s1 3 (pos 5) ∷ []) (op_at s1 3 (CounterInc a (pos 1)) ∷ op_at s1 2 (CounterInc a (pos 1)) ∷ op_at s2 1 (CounterInc a (pos 1)) ∷ op_at s1 4 (CounterInc a (pos 1)) ∷ [])
@@ -268,4 +272,6 @@ pub record StepsAreTaken : Type 0 where
   -- what a page tells is put in order: of two of one key or one site the one of the greater serial stays
   pub told : told_cells 9 ((codes "l", record { serial = serial_at s1 2 0; value = None }) ∷ (k, record { serial = serial_at s1 1 0; value = Some (text []) }) ∷ [])
       ≡ (k, value_written (serial_at s1 1 0) (text [])) ∷ (codes "l", removal (serial_at s1 2 0) 9) ∷ []
+  -- an object whose body is not of its id's kind is passed over, of two of one id the last counts, and there is a root
+  pub replaces : replaced 9 (told_counter 1 ∷ told_counter 2 ∷ record (told_counter 3) { id = m } ∷ []) ≡ held_counter s1 1 (pos 2) ∷ bare_root ∷ []
   pub sites : sites_of ((s2, serial_at s2 2 0) ∷ (s1, serial_at s1 1 0) ∷ (s2, serial_at s2 1 0) ∷ []) ≡ (s1, serial_at s1 1 0) ∷ (s2, serial_at s2 2 0) ∷ []

@@ -5,3 +5,6 @@ pub mod Objects
 pub mod Rules
 pub mod Steps
 pub mod Examples
+pub mod Commuting
+pub mod Collecting
+pub mod Agreeing

@@ -5,7 +5,10 @@ use Rattle.std.specs.List.{list_any}
 use Rattle.std.specs.Ordering.{nat_cmp, match_ordering}
 use Rattle.std.specs.Cmp.Lexicographic.{slice_cmp}
 use Rattle.rl_numbers.specs.declared.limits.TheConstants.{MAX_COUNTER_SUM}
+use Rattle.rl_ids.specs.declared.objects.ObjectKind.{ObjectKind}
+use Rattle.rl_ids.specs.declared.objects.ObjectKind.TheVariants as kinds
 use Rattle.rl_ids.specs.declared.objects.ObjectId.{ObjectId}
+use Rattle.rl_ids.specs.declared.objects.ObjectId.TheVariants.{Root}
 use Rattle.rl_ids.specs.declared.objects.MapValue.{MapValue}
 use Rattle.rl_ids.specs.declared.serials.OpSerial.{OpSerial}
 use Rattle.rl_ids.specs.Objects.{id_cmp, kind_of, is_below, same_id}
@@ -19,12 +22,12 @@ use Rattle.rl_types.specs.declared.objects.ObjectState.{ObjectState}
 use Rattle.rl_objmodel.specs.declared.plain.Applied.{Applied}
 use Rattle.rl_objmodel.specs.declared.plain.Applied.TheVariants as outcomes
 use Rattle.rl_objmodel.specs.Places.{at_text, with_at}
-use Rattle.rl_objmodel.specs.Operations.{id_in, suits, is_root}
-use Rattle.rl_objmodel.specs.Held.{Written, Value, Removed, Write, value_written, removal, value_in, Cells, is_collected, is_collected_write, HeldBody, Sum, Keys, Held, empty_body, shown}
+use Rattle.rl_objmodel.specs.Operations.{id_in, is_create, is_delete, suits, is_root}
+use Rattle.rl_objmodel.specs.Held.{Written, Value, Removed, Write, value_written, removal, value_in, Cells, is_collected, is_collected_write, HeldBody, Sum, Keys, Held, empty_body, bare_root, shown}
 use Rattle.rl_objmodel.specs.Objects.{greater, greater_serial, read_value}
 use Rattle.rl_objmodel.specs.Rules.{Setting, or_next, op_rule, serial_at, with_serial, sum_held}
 
--- SITES (RTO9)
+-- SITES (RTLO4a)
 
 -- a serial is greater than this one, or there is none
 abbrev pub is_above : Option OpSerial → OpSerial → Bool
@@ -201,21 +204,52 @@ outcome serial op held =
     else if is_none held.deleted && body_passes_range held.body (added op held.created) then outcomes.Range
     else outcomes.Applied
 
--- what it makes of an object that stands, but for the sites
-abbrev pub acted : ℕ → OpSerial → Op → Held → Held
-acted stamp serial (MapCreate id entries) held =
-    if held.created then held else record held { created = true; body = on_cells (with_writes (entry_writes serial entries)) held.body }
-acted stamp serial (MapSet id key value) held = record held { body = on_cells (with_write key (value_written serial value)) held.body }
-acted stamp serial (MapRemove id key) held = record held { body = on_cells (with_write key (removal serial stamp)) held.body }
-acted stamp serial (CounterCreate id count) held =
-    if held.created then held else record held { created = true; body = on_sum (λ sum. sum +ℤ count) held.body }
-acted stamp serial (CounterInc id amount) held = record held { body = on_sum (λ sum. sum +ℤ amount) held.body }
-acted stamp serial (Delete id) held = record held { deleted = Some stamp; created = false; body = empty_body (kind_of held.id) }
+-- nothing of what it held (RTLO4e)
+abbrev pub emptied : HeldBody → HeldBody
+emptied (Sum sum) = Sum (pos 0)
+emptied (Keys cells) = Keys []
 
--- what it makes of an object: of a tombstone nothing but a site's serial
+-- what it changes in the body of an object that stands
+abbrev pub changed : ℕ → OpSerial → Op → HeldBody → HeldBody
+changed stamp serial (MapCreate id entries) body = on_cells (with_writes (entry_writes serial entries)) body
+changed stamp serial (MapSet id key value) body = on_cells (with_write key (value_written serial value)) body
+changed stamp serial (MapRemove id key) body = on_cells (with_write key (removal serial stamp)) body
+changed stamp serial (CounterCreate id count) body = on_sum (λ sum. sum +ℤ count) body
+changed stamp serial (CounterInc id amount) body = on_sum (λ sum. sum +ℤ amount) body
+changed stamp serial (Delete id) body = emptied body
+
+-- a create is merged once
+abbrev pub body_after : ℕ → OpSerial → Op → Bool → HeldBody → HeldBody
+body_after stamp serial op created body = if is_create op && created then body else changed stamp serial op body
+
+abbrev pub created_after : Op → Bool → Bool
+created_after op created = not (is_delete op) && (is_create op || created)
+
+abbrev pub deleted_after : ℕ → Op → Option ℕ
+deleted_after stamp op = if is_delete op then Some stamp else None
+
+-- an object to which an operation was applied: of a tombstone only the sites change
+abbrev pub held_by : Option ℕ → ℕ → OpSerial → Op → Held → Held
+held_by (Some deleted) stamp serial op held = record held { sites = with_site serial held.sites }
+held_by None stamp serial op held =
+    record {
+      id = held.id;
+      sites = with_site serial held.sites;
+      deleted = deleted_after stamp op;
+      created = created_after op held.created;
+      body = body_after stamp serial op held.created held.body;
+    }
+
 abbrev pub held_with : ℕ → OpSerial → Op → Held → Held
-held_with stamp serial op held =
-    record (if is_some held.deleted then held else acted stamp serial op held) { sites = with_site serial held.sites }
+held_with stamp serial op held = held_by held.deleted stamp serial op held
+
+abbrev pub held_if : Applied → Held → Held → Held
+held_if outcomes.Applied new old = new
+held_if _ new old = old
+
+-- what an operation makes of an object: one that is not applied changes nothing
+abbrev pub held_after : ℕ → OpSerial → Op → Held → Held
+held_after stamp serial op held = held_if (outcome serial op held) (held_with stamp serial op held) held
 
 -- ALL OBJECTS
 
@@ -312,6 +346,28 @@ told_held now state =
       created = state.created;
       body = told_body now state.body;
     }
+
+-- objects as a page told them, one after another: of one id the last; one whose body is not of its id's kind is passed
+-- over
+
+abbrev pub is_of_kind : ObjectKind → ObjectBody → Bool
+is_of_kind kinds.Counter (bodies.Counter sum) = true
+is_of_kind kinds.Map (bodies.Map cells) = true
+is_of_kind kind _ = false
+
+abbrev pub with_told_state : ℕ → ObjectState → List Held → List Held
+with_told_state now state pool = if is_of_kind (kind_of state.id) state.body then with_held (told_held now state) pool else pool
+
+abbrev pub told_pool : ℕ → List ObjectState → List Held → List Held
+told_pool now [] pool = pool
+told_pool now (state ∷ states) pool = told_pool now states (with_told_state now state pool)
+
+-- with a root that nobody wrote to, where there is none
+abbrev pub with_root : List Held → List Held
+with_root pool = if is_some (held_at Root pool) then pool else with_held bare_root pool
+
+abbrev pub replaced : ℕ → List ObjectState → List Held
+replaced now states = with_root (told_pool now states [])
 
 -- RULES
 

@@ -1,4 +1,7 @@
 //! Laws over the definitions alone. Each is a function that does nothing: its contract is the law.
+ghost use Rattle.rl_objmodel.specs.Agreeing.{ObjectsAgree};
+ghost use Rattle.rl_objmodel.specs.Collecting.{LastTickCounts};
+ghost use Rattle.rl_objmodel.specs.Commuting.{EitherOrder};
 ghost use Rattle.rl_objmodel.specs.Examples.{CountersCount, CellsAreGreatest, LengthsAreBounded, TargetsAreJudged, ReferencesAreJudged, NumbersAreBounded, PoolsAreBounded, TombstonesAreCollected, LiveObjectsRead, StepsAreDefined, StepsAreTaken};
 
 /// What counters have: the count of their create, and the amounts of their increments.
@@ -65,4 +68,24 @@ pub fn steps_are_defined()
 #[tactic(auto, using(crate::proofs::Worked::steps_are_taken))]
 pub fn steps_are_taken()
     ensures { StepsAreTaken }
+{}
+
+/// Two operations of different sites leave the same object in either order, where they are not both creates, and
+/// neither order brings a sum past its range.
+#[tactic(auto, using(crate::proofs::CommutingOps::either_order))]
+pub fn either_order()
+    ensures { EitherOrder }
+{}
+
+/// An object that takes the same operations of each site, in any order of sites, is the same in the end, where it is
+/// created once and no sum passes its range.
+#[tactic(auto, using(crate::proofs::AgreeingLists::objects_agree))]
+pub fn objects_agree()
+    ensures { ObjectsAgree }
+{}
+
+/// A Tick after an earlier one leaves what it would have left alone.
+#[tactic(auto, using(crate::proofs::CollectingTwice::last_tick_counts))]
+pub fn last_tick_counts()
+    ensures { LastTickCounts }
 {}
