@@ -11,10 +11,10 @@ use Rattle.rl_objmodel.specs.Steps.{collected_cells, collected_body, is_gone, co
 use Rattle.rl_objmodel.specs.Collecting.{LastTickCounts}
 
 module _ (first last : ℕ) (later : first ≤ last) where
-  le_later : (n : ℕ) → nat_le n first ≡ true → nat_le n last ≡ true
+  pub le_later : (n : ℕ) → nat_le n first ≡ true → nat_le n last ≡ true
   le_later n h = grind (arith, nat_tests)
 
-  write_later : (written : Written) → is_collected_write first written ≡ true → is_collected_write last written ≡ true
+  pub write_later : (written : Written) → is_collected_write first written ≡ true → is_collected_write last written ≡ true
   write_later (Value value) h = h
   write_later (Removed stamp) h = le_later (stamp + TOMBSTONE_GRACE) h
 

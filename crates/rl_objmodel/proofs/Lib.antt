@@ -4,3 +4,4 @@ pub mod PlacesFound
 pub mod CommutingOps
 pub mod CollectingTwice
 pub mod AgreeingLists
+pub mod CollectingKept

@@ -162,7 +162,7 @@ tombstone id latest stamp =
 abbrev pub kept_by : ℕ → ObjectId → List Stamped → Option Stamped → Option Held
 kept_by ticked id latest None = if is_root id || list_any creates latest then Some (standing ticked id latest) else None
 kept_by ticked id latest (Some delete) =
-    if is_collected ticked delete.stamp then None else Some (tombstone id latest delete.stamp)
+    if not (is_root id) && is_collected ticked delete.stamp then None else Some (tombstone id latest delete.stamp)
 
 -- an object: the root, one that was created, or its tombstone until it is collected
 abbrev pub kept : ℕ → List Stamped → ObjectId → Option Held

@@ -1,6 +1,6 @@
 //! Laws over the definitions alone. Each is a function that does nothing: its contract is the law.
 ghost use Rattle.rl_objmodel.specs.Agreeing.{ObjectsAgree};
-ghost use Rattle.rl_objmodel.specs.Collecting.{LastTickCounts};
+ghost use Rattle.rl_objmodel.specs.Collecting.{LastTickCounts, TicksCollect};
 ghost use Rattle.rl_objmodel.specs.Commuting.{EitherOrder};
 ghost use Rattle.rl_objmodel.specs.Examples.{CountersCount, CellsAreGreatest, LengthsAreBounded, TargetsAreJudged, ReferencesAreJudged, NumbersAreBounded, PoolsAreBounded, TombstonesAreCollected, LiveObjectsRead, StepsAreDefined, StepsAreTaken};
 
@@ -88,4 +88,10 @@ pub fn objects_agree()
 #[tactic(auto, using(crate::proofs::CollectingTwice::last_tick_counts))]
 pub fn last_tick_counts()
     ensures { LastTickCounts }
+{}
+
+/// What is kept at a later Tick is what that Tick leaves of what was kept at an earlier one.
+#[tactic(auto, using(crate::proofs::CollectingKept::ticks_collect))]
+pub fn ticks_collect()
+    ensures { TicksCollect }
 {}
