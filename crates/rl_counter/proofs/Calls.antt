@@ -1,6 +1,6 @@
 -- What the searches among sites leave.
 use Rattle.std.proofs.Common.{◌≡◌, ℕ, Bool, true, false, cond, List, refl, ap, sym, ◌∙◌, get_or}
-use Rattle.std.specs.Prelude.{insert, slice_set, Option, Some, None, Result, OnOk, OnErr}
+use Rattle.std.specs.Prelude.{insert, slice_set, Option, Some, None, Result, OnOk}
 use Rattle.std.proofs.lemmas.Result.{on_ok_weaker}
 use Rattle.rl_ids.specs.declared.serials.OpSerial.{OpSerial}
 use Rattle.rl_ids.specs.Objects.{is_below}

@@ -41,13 +41,7 @@ fn added(op: &Op, created: bool) -> Option<i64>
     ensures { result ≡ added op.now created }
 {
     match op {
-        Op::CounterCreate { id: _, count } => {
-            if created {
-                None
-            } else {
-                Some(*count)
-            }
-        }
+        Op::CounterCreate { id: _, count } => { if created { None } else { Some(*count) } }
         Op::CounterInc { id: _, amount } => Some(*amount),
         _ => None,
     }

@@ -59,7 +59,11 @@ pub fn is_newer(sites: &[(SiteCode, OpSerial)], serial: &OpSerial) -> bool
 }
 
 // Sets a site's serial.
-fn put_at(sites: &mut List<(SiteCode, OpSerial)>, site: SiteCode, serial: OpSerial) -> Result<(), NoMemory>
+fn put_at(
+    sites: &mut List<(SiteCode, OpSerial)>,
+    site: SiteCode,
+    serial: OpSerial,
+) -> Result<(), NoMemory>
     ensures ok { IsRising sites.old → OnOk result (sites.new ≡ with_at site serial sites.old) }
     ensures rising { IsRising sites.old → IsRising sites.new }
     ensures err { OnErr result (sites.new ≡ sites.old) }

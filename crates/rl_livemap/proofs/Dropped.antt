@@ -1,5 +1,5 @@
 -- What is left where collected cells are dropped, the last first.
-use Rattle.std.proofs.Common.{◌≡◌, ℕ, zero, suc, ◌+◌, ◌<◌, ◌≤◌, Bool, true, false, cond, List, [], ◌∷◌, length, drop, refl, ap, sym, subst, ◌∙◌, arith, get_or}
+use Rattle.std.proofs.Common.{◌≡◌, ℕ, zero, suc, ◌<◌, ◌≤◌, Bool, true, false, cond, List, [], ◌∷◌, length, drop, refl, ap, sym, subst, ◌∙◌, arith, get_or}
 use Rattle.std.specs.Prelude.{remove, filter, not}
 use Rattle.std.proofs.lemmas.List.Edits.{length-remove}
 use Rattle.rl_types.specs.declared.objects.MapCell.{MapCell}
@@ -8,7 +8,7 @@ use Rattle.rl_objmodel.specs.Places.{IsRising}
 use Rattle.rl_objmodel.specs.Steps.{collected_cells, told_write, told_written}
 use Rattle.rl_objmodel.proofs.PlacesHeld.{is_rising_kept}
 use Rattle.rl_livemap.specs.Stamps.{stamped, IsKept}
-use Rattle.rl_livemap.proofs.Stamped.{Shown, remove_stamped, length-stamped, get_or-stamped}
+use Rattle.rl_livemap.proofs.Stamped.{Shown, remove_stamped, get_or-stamped}
 
 filter_remove : (keep : List ℕ × Write → Bool) (xs : Cells) (at : ℕ) (d : List ℕ × Write) → at < length xs → keep (get_or xs at d) ≡ false → filter keep (remove xs at) ≡ filter keep xs
 filter_remove keep [] at d h dead = absurd (omega arith)

@@ -1,16 +1,14 @@
 -- Several writes, one after another.
-use Rattle.std.proofs.Common.{◌≡◌, ℕ, ◌+◌, ◌<◌, Bool, true, false, cond, List, [], ◌∷◌, ◌++◌, length, take, refl, ap, sym, subst, ◌∙◌, get_or}
+use Rattle.std.proofs.Common.{◌≡◌, ℕ, ◌+◌, ◌<◌, Bool, true, false, cond, List, [], ◌∷◌, ◌++◌, length, take, refl, ap, sym, ◌∙◌, get_or}
 use Rattle.std.proofs.lemmas.List.{take_more}
 use Rattle.std.specs.Prelude.{map, option_map, ◌||◌, Option, Some, None}
 use Rattle.std.specs.List.{list_any}
 use Rattle.rl_ids.specs.declared.serials.OpSerial.{OpSerial}
 use Rattle.rl_ids.specs.declared.objects.MapValue.{MapValue}
-use Rattle.rl_ids.specs.Objects.{is_below}
-use Rattle.rl_types.specs.declared.objects.MapCell.{MapCell}
 use Rattle.rl_objmodel.specs.Held.{Write, Cells, value_written}
 use Rattle.rl_objmodel.specs.Objects.{greater}
-use Rattle.rl_objmodel.specs.Places.{at_text, with_at, IsRising}
-use Rattle.rl_objmodel.specs.Steps.{MapHeld, is_above, changes, any_changes, with_write, with_writes, entry_write, entry_writes, told_write}
+use Rattle.rl_objmodel.specs.Places.{at_text, IsRising}
+use Rattle.rl_objmodel.specs.Steps.{MapHeld, is_above, changes, any_changes, with_write, with_writes, entry_writes}
 use Rattle.rl_objmodel.proofs.PlacesHeld.{same_with}
 
 writes_push : (xs : Cells) (x : List ℕ × Write) (cells : Cells) → with_writes (xs ++ x ∷ []) cells ≡ with_write x.0 x.1 (with_writes xs cells)

@@ -2,7 +2,6 @@
 use Rattle.std.proofs.Common.{◌≡◌, ℕ, zero, suc, ◌<◌, ◌≤◌, Bool, true, false, cond, List, [], ◌∷◌, length, refl, ap, sym, subst, ◌∙◌, arith, get_or}
 use Rattle.std.specs.Prelude.{insert, remove, slice_set, map, option_map, bytes_eq, Option, Some, None}
 use Rattle.std.proofs.Math.ListN.{get_or-map}
-use Rattle.rl_ids.specs.declared.serials.OpSerial.{OpSerial}
 use Rattle.rl_ids.specs.declared.objects.MapValue.{MapValue}
 use Rattle.rl_types.specs.declared.objects.MapCell.{MapCell}
 use Rattle.rl_objmodel.specs.Held.{Write, Cells, value_in, cell_of, shown_cell}

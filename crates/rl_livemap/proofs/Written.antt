@@ -1,6 +1,6 @@
 -- What a write leaves.
-use Rattle.std.proofs.Common.{◌≡◌, ℕ, ◌+◌, ◌<◌, ◌≤◌, Bool, true, false, cond, List, [], ◌∷◌, length, refl, ap, sym, subst, ◌∙◌, arith, get_or}
-use Rattle.std.specs.Prelude.{insert, slice_set, map, option_map, bytes_eq, Option, Some, None}
+use Rattle.std.proofs.Common.{◌≡◌, ℕ, ◌+◌, ◌<◌, ◌≤◌, Bool, true, false, cond, List, length, refl, ap, sym, subst, ◌∙◌, arith, get_or}
+use Rattle.std.specs.Prelude.{insert, slice_set, option_map, Option, Some, None}
 use Rattle.std.proofs.Math.ListN.{get_or-map}
 use Rattle.std.proofs.lemmas.List.{length-set}
 use Rattle.std.proofs.lemmas.List.Edits.{length-insert}
@@ -48,9 +48,9 @@ written_new key cell stamp cells cells2 stamps stamps2 at kept place h k =
     let low : at ≤ length cells = omega (arith, place.place.within, length-stamped cells stamps kept.even) in
     let there : at_text key z ≡ None = missed_there key z at kept.rising place in
     let both : stamped cells2 stamps2 ≡ insert z at (told_write stamp (key, cell)) =
-        ap (λ (xs : Shown). stamped xs stamps2) h ∙ ap (stamped (insert cells at (key, cell))) k ∙ insert_stamped cells stamps at (key, cell) stamp kept.even low in
+    ap (λ (xs : Shown). stamped xs stamps2) h ∙ ap (stamped (insert cells at (key, cell))) k ∙ insert_stamped cells stamps at (key, cell) stamp kept.even low in
     let size : length stamps2 ≡ length cells2 =
-        ap length k ∙ length-insert stamps at stamp (omega (arith, kept.even)) ∙ ap (λ (n : ℕ). n + 1) kept.even ∙ sym (length-insert cells at (key, cell) low) ∙ sym (ap length h) in
+    ap length k ∙ length-insert stamps at stamp (omega (arith, kept.even)) ∙ ap (λ (n : ℕ). n + 1) kept.even ∙ sym (length-insert cells at (key, cell) low) ∙ sym (ap length h) in
     record {
       tells = sym (changes_there key cell.serial z None there);
       step = both ∙ inserted_with key (told_write stamp (key, cell)).1 z at place ∙ sym (with_there key cell stamp z None (told_write stamp (key, cell)).1 there refl);
@@ -98,7 +98,7 @@ module _ (key : List ℕ) (cell : MapCell) (stamp : ℕ) (cells : Shown) (stamps
       let z = stamped cells stamps in
       let cells_are : cells2 ≡ slice_set cells at (key, cell) = h ∙ ap (λ (t : List ℕ). slice_set cells at (t, cell)) same_key in
       let both : stamped cells2 stamps2 ≡ slice_set z at (told_write stamp (key, cell)) =
-          ap (λ (xs : Shown). stamped xs stamps2) cells_are ∙ ap (stamped (slice_set cells at (key, cell))) k ∙ set_stamped cells stamps at (key, cell) stamp kept.even within in
+      ap (λ (xs : Shown). stamped xs stamps2) cells_are ∙ ap (stamped (slice_set cells at (key, cell))) k ∙ set_stamped cells stamps at (key, cell) stamp kept.even within in
       record {
         tells = changed_at true e;
         step = both ∙ replaced_with key (told_write stamp (key, cell)).1 z at place ∙ sym (with_there key cell stamp z (Some there_write) (told_write stamp (key, cell)).1 there (greater_at true (below_at true e)));

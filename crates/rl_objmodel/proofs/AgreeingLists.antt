@@ -7,8 +7,7 @@ use Rattle.rl_types.specs.declared.objects.Op.{Op}
 use Rattle.rl_types.specs.declared.objects.ObjectOp.{ObjectOp}
 use Rattle.rl_objmodel.specs.Operations.{is_create}
 use Rattle.rl_objmodel.specs.Held.{Held}
-use Rattle.rl_objmodel.specs.Steps.{outcome, held_after}
-use Rattle.rl_objmodel.specs.Agreeing.{has_site, is_of_site, has_serial, SameBySite, makes, CreatesOnce, object_after, objects_after, passes_sum, NonePasses, ObjectsAgree}
+use Rattle.rl_objmodel.specs.Agreeing.{has_site, is_of_site, has_serial, makes, CreatesOnce, object_after, objects_after, passes_sum, NonePasses, ObjectsAgree}
 use Rattle.rl_objmodel.proofs.PlacesHeld.{texts_same, texts_itself}
 use Rattle.rl_objmodel.proofs.CommutingOps.{taken, skips, after_taken, taken_either, eq_back}
 
@@ -69,6 +68,7 @@ made_within site (x ∷ xs) y rest h none = by_test (is_of_site site x) h (neith
     neither : (a b : Bool) → (a || b) ≡ false → (a ≡ false) × (b ≡ false)
     neither true b h = cc
     neither false b h = (refl, h)
+
     by_test : (b : Bool) → cond b (x ∷ filter (is_of_site site) xs) (filter (is_of_site site) xs) ≡ y ∷ rest → (makes x ≡ false) × (list_any makes xs ≡ false) → (filter (is_of_site site) xs ≡ y ∷ rest → list_any makes xs ≡ false → makes y ≡ false) → makes y ≡ false
     by_test true h both more = ap makes (sym (head_of x y _ _ h)) ∙ both.0
     by_test false h both more = more h both.1

@@ -8,7 +8,7 @@ use Rattle.rl_ids.specs.declared.objects.ObjectKind.TheVariants as kinds
 use Rattle.rl_ids.specs.declared.objects.ObjectId.{ObjectId}
 use Rattle.rl_ids.specs.Objects.{kind_of}
 use Rattle.rl_objmodel.specs.Operations.{Stamped, own, creates, deletes, is_root}
-use Rattle.rl_objmodel.specs.Held.{Write, Cells, is_collected, is_collected_write, HeldBody, Sum, Keys, Held, empty_body}
+use Rattle.rl_objmodel.specs.Held.{Write, is_collected, is_collected_write, HeldBody, Keys, Held, empty_body}
 use Rattle.rl_objmodel.specs.Objects.{writes, greatest, keys_in, kept_write, kept_cell, body_of, standing, tombstone, kept_by, kept, ids_in, all_kept}
 use Rattle.rl_objmodel.specs.Steps.{collected_cells, collected_body, collected_held, collected}
 use Rattle.rl_objmodel.specs.Collecting.{TicksCollect}

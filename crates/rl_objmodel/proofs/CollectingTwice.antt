@@ -1,13 +1,13 @@
 -- A Tick after an earlier one leaves what it would have left alone.
 use Rattle.std.proofs.Common.{◌≡◌, ℕ, ◌≤◌, ◌+◌, Bool, true, false, cond, List, [], ◌∷◌, refl, ap, sym, ◌∙◌, arith}
-use Rattle.std.specs.Prelude.{filter, filter_map, not, nat_le, ◌&&◌, Option, Some, None}
+use Rattle.std.specs.Prelude.{not, nat_le, ◌&&◌, Option, Some, None}
 use Rattle.std.specs.Option.{option_map_or}
 use Rattle.std.specs.List.{cons_option}
 use Rattle.std.proofs.lemmas.Bool.Decides.{nat_tests}
 use Rattle.rl_numbers.specs.declared.limits.TheConstants.{TOMBSTONE_GRACE}
 use Rattle.rl_objmodel.specs.Operations.{is_root}
 use Rattle.rl_objmodel.specs.Held.{Written, Value, Removed, Write, Cells, is_collected, is_collected_write, HeldBody, Sum, Keys, Held}
-use Rattle.rl_objmodel.specs.Steps.{collected_cells, collected_body, is_gone, collected_held, collected}
+use Rattle.rl_objmodel.specs.Steps.{collected_cells, collected_body, is_gone, collected}
 use Rattle.rl_objmodel.specs.Collecting.{LastTickCounts}
 
 module _ (first last : ℕ) (later : first ≤ last) where

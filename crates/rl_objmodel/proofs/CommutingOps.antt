@@ -1,10 +1,10 @@
 -- Operations of two sites on one object leave the same in either order.
 use Rattle.std.proofs.Common.{◌≡◌, ℕ, Bool, true, false, cond, List, [], ◌∷◌, refl, ap, sym, subst, ◌∙◌, arith}
-use Rattle.std.specs.Prelude.{◌&&◌, ◌||◌, not, bytes_eq, option_map, Option, Some, None, is_some, is_none, ℤ, pos, ◌+ℤ◌}
+use Rattle.std.specs.Prelude.{◌&&◌, ◌||◌, not, bytes_eq, Option, Some, None, is_none, ℤ, ◌+ℤ◌}
 use Rattle.std.proofs.lemmas.Int.{ints}
 use Rattle.std.specs.declared.cmp.Ordering.{Ordering}
 use Rattle.std.specs.declared.cmp.Ordering.TheVariants.{Less, Equal, Greater}
-use Rattle.std.specs.Ordering.{nat_cmp, match_ordering, is_lt, is_eq, ordering_reverse, ordering_then}
+use Rattle.std.specs.Ordering.{nat_cmp, match_ordering, is_lt, ordering_reverse, ordering_then}
 use Rattle.std.specs.Cmp.{IsTotalOrder}
 use Rattle.std.specs.Cmp.Lexicographic.{slice_cmp}
 use Rattle.std.proofs.lemmas.Cmp.{nat_list_cmp_total, nat_cmp_total, on_total, then_total, tied_itself}
@@ -14,7 +14,6 @@ use Rattle.rl_ids.specs.Objects.{serial_cmp, is_below}
 use Rattle.rl_ids.specs.declared.objects.ObjectId.{ObjectId}
 use Rattle.rl_types.specs.declared.objects.Op.{Op}
 use Rattle.rl_types.specs.declared.objects.Op.TheVariants.{MapCreate, MapSet, MapRemove, CounterCreate, CounterInc, Delete}
-use Rattle.rl_objmodel.specs.declared.plain.Applied.{Applied}
 use Rattle.rl_objmodel.specs.declared.plain.Applied.TheVariants as outcomes
 use Rattle.rl_objmodel.specs.Operations.{is_create, is_delete}
 use Rattle.rl_objmodel.specs.Held.{Write, Cells, value_written, removal, HeldBody, Sum, Keys, Held}

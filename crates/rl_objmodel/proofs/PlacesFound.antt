@@ -1,7 +1,7 @@
 -- What a search among texts in order finds, and what is left where something is put there. The list that is searched
 -- is seen as the list that is held.
-use Rattle.std.proofs.Common.{◌≡◌, ℕ, List, refl, ap, sym, subst, ◌∙◌, get_or}
-use Rattle.std.specs.Prelude.{insert, slice_set, Option, Some, None, IsSome, Result, Ok, Err, OnOk, OnErr, IsOk}
+use Rattle.std.proofs.Common.{◌≡◌, ℕ, List, ap, sym, subst, ◌∙◌, get_or}
+use Rattle.std.specs.Prelude.{insert, slice_set, Some, None, IsSome, Result, Ok, Err, OnOk, OnErr}
 use Rattle.std.proofs.lemmas.Result.{on_ok_weaker}
 use Rattle.rl_objmodel.specs.Places.{at_text, with_at, IsRising, IsHeldAt, IsMissedAt}
 use Rattle.rl_objmodel.proofs.PlacesHeld.{inserted_with, replaced_with, held_there, missed_there, is_rising_with}

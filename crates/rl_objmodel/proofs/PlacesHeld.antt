@@ -1,6 +1,6 @@
 -- A place among texts in order.
 use Rattle.std.proofs.Common.{◌≡◌, ℕ, zero, suc, ◌<◌, Bool, true, false, cond, List, [], ◌∷◌, length, refl, ap, sym, subst, ◌∙◌, arith, get_or}
-use Rattle.std.specs.Prelude.{insert, remove, slice_set, filter, bytes_eq, Option, Some, None, Result, ⊤}
+use Rattle.std.specs.Prelude.{insert, slice_set, filter, bytes_eq, Some, None}
 use Rattle.std.specs.List.{AllByRecursion}
 use Rattle.std.specs.List.Sorted.{IsPartitionedBy}
 use Rattle.std.specs.declared.cmp.Ordering.{Ordering}

@@ -4,7 +4,6 @@ use Rattle.std.specs.List.{list_any, list_all}
 use Rattle.rl_ids.specs.declared.serials.OpSerial.{OpSerial}
 use Rattle.rl_types.specs.declared.objects.Op.{Op}
 use Rattle.rl_types.specs.declared.objects.ObjectOp.{ObjectOp}
-use Rattle.rl_objmodel.specs.declared.plain.Applied.{Applied}
 use Rattle.rl_objmodel.specs.Operations.{is_create}
 use Rattle.rl_objmodel.specs.Held.{Held}
 use Rattle.rl_objmodel.specs.Steps.{outcome, held_after}

@@ -1,9 +1,8 @@
 -- Operations of two sites on one object may come in either order: the core of why pools that took the same operations
 -- agree.
-use Rattle.std.specs.Prelude.{◌≡◌, ℕ, Bool, true, false, ◌&&◌, ◌||◌, not, if◌then◌else◌, bytes_eq}
+use Rattle.std.specs.Prelude.{◌≡◌, ℕ, Bool, true, false, ◌&&◌, bytes_eq}
 use Rattle.rl_ids.specs.declared.serials.OpSerial.{OpSerial}
 use Rattle.rl_types.specs.declared.objects.Op.{Op}
-use Rattle.rl_types.specs.declared.objects.ObjectOp.{ObjectOp}
 use Rattle.rl_objmodel.specs.declared.plain.Applied.{Applied}
 use Rattle.rl_objmodel.specs.declared.plain.Applied.TheVariants as outcomes
 use Rattle.rl_objmodel.specs.Operations.{is_create}

@@ -1,5 +1,5 @@
 -- Small worked examples, with which the definitions are tried.
-use Rattle.std.specs.Prelude.{ℕ, suc, ◌+◌, ◌≡◌, Bool, true, false, List, [], ◌∷◌, ◌++◌, replicate, Option, Some, None, codes, ℤ, pos, negsuc, option_map}
+use Rattle.std.specs.Prelude.{ℕ, suc, ◌+◌, ◌≡◌, true, false, List, [], ◌∷◌, ◌++◌, replicate, Option, Some, None, codes, ℤ, pos, negsuc}
 use Rattle.rl_numbers.specs.declared.limits.TheConstants.{TOMBSTONE_GRACE}
 use Rattle.rl_ids.specs.declared.objects.ObjectKind.TheVariants.{Map, Counter}
 use Rattle.rl_ids.specs.declared.objects.ObjectId.{ObjectId}
@@ -16,10 +16,10 @@ use Rattle.rl_types.specs.declared.objects.ObjectState.{ObjectState}
 use Rattle.rl_objmodel.specs.declared.plain.Applied.{Applied}
 use Rattle.rl_objmodel.specs.declared.plain.Applied.TheVariants as outcomes
 use Rattle.rl_objmodel.specs.Operations.{Stamped, stamped_at}
-use Rattle.rl_objmodel.specs.Held.{Write, value_written, removal, HeldBody, Sum, Keys, Held, bare_root, shown}
-use Rattle.rl_objmodel.specs.Objects.{counter, cell, LiveBody, Count, Entries, LiveObject, objects, kept, all_kept, kept_objects}
-use Rattle.rl_objmodel.specs.Rules.{Setting, serial_at, with_serial, ops_rule, pool_rule}
-use Rattle.rl_objmodel.specs.Steps.{pool_after, pool_after_op, pool_outcome, pool_outcomes, pool_ops_rule, collected, live_states, told_cells, sites_of, replaced, states, Tally, tally_outcome, tally_after}
+use Rattle.rl_objmodel.specs.Held.{Write, value_written, removal, Sum, Keys, Held, bare_root, shown}
+use Rattle.rl_objmodel.specs.Objects.{counter, cell, Count, Entries, objects, kept, all_kept}
+use Rattle.rl_objmodel.specs.Rules.{serial_at, ops_rule, pool_rule}
+use Rattle.rl_objmodel.specs.Steps.{pool_after, pool_after_op, pool_outcome, pool_outcomes, pool_ops_rule, collected, told_cells, sites_of, replaced}
 
 abbrev pub s1 : List ℕ
 s1 = codes "s1"

@@ -1,5 +1,5 @@
 -- An object as it is held: what a page shows of it, and the moments at which it was deleted and its keys were removed.
-use Rattle.std.specs.Prelude.{ℕ, ◌+◌, Bool, true, false, nat_le, List, [], ◌∷◌, map, Option, Some, None, is_some, ℤ, pos}
+use Rattle.std.specs.Prelude.{ℕ, ◌+◌, Bool, true, false, nat_le, List, [], map, Option, Some, None, is_some, ℤ, pos}
 use Rattle.rl_numbers.specs.declared.limits.TheConstants.{TOMBSTONE_GRACE}
 use Rattle.rl_ids.specs.declared.objects.ObjectKind.{ObjectKind}
 use Rattle.rl_ids.specs.declared.objects.ObjectKind.TheVariants as kinds

@@ -13,11 +13,10 @@ use Rattle.rl_ids.specs.declared.objects.MapValue.TheVariants as values
 use Rattle.rl_ids.specs.declared.serials.OpSerial.{OpSerial}
 use Rattle.rl_ids.specs.Objects.{id_cmp, kind_of, is_below}
 use Rattle.rl_types.specs.declared.objects.Op.{Op}
-use Rattle.rl_types.specs.declared.objects.Op.TheVariants.{MapCreate, MapSet, MapRemove, CounterCreate, CounterInc, Delete}
-use Rattle.rl_types.specs.declared.objects.ObjectOp.{ObjectOp}
+use Rattle.rl_types.specs.declared.objects.Op.TheVariants.{MapCreate, MapSet, MapRemove, CounterCreate, CounterInc}
 use Rattle.rl_types.specs.declared.objects.ObjectState.{ObjectState}
 use Rattle.rl_objmodel.specs.Operations.{Stamped, id_of, own, creates, deletes, keys_of, is_root}
-use Rattle.rl_objmodel.specs.Held.{Written, Value, Write, value_written, removal, value_in, Cells, is_collected, is_collected_write, HeldBody, Sum, Keys, Held, empty_body, shown}
+use Rattle.rl_objmodel.specs.Held.{Write, value_written, removal, value_in, is_collected, is_collected_write, HeldBody, Sum, Keys, Held, empty_body, shown}
 
 -- COUNTERS (RTLC)
 

@@ -1,6 +1,6 @@
 -- The rules that operations on objects pass, one after another. Each operation is judged against the objects as they
 -- are after the earlier ones of its frame. (The rules and their limits are this project's own.)
-use Rattle.std.specs.Prelude.{ℕ, suc, ◌+◌, Bool, true, false, ◌||◌, not, if◌then◌else◌, nat_lt, List, [], ◌∷◌, length, map, sum_by, Option, Some, None, is_some, ℤ, pos, ◌+ℤ◌, unsigned_abs}
+use Rattle.std.specs.Prelude.{ℕ, suc, ◌+◌, Bool, true, false, ◌||◌, not, nat_lt, List, [], ◌∷◌, length, sum_by, Option, Some, None, is_some, ℤ, pos, ◌+ℤ◌, unsigned_abs}
 use Rattle.std.specs.List.{list_any}
 use Rattle.rl_numbers.specs.declared.codes.TheConstants.{TOO_LONG, UNKNOWN_OBJECT, DUPLICATE_OBJECT, STALE_ID, RANGE, WRONG_KIND, TOMBSTONED, POOL_LIMIT}
 use Rattle.rl_numbers.specs.declared.limits.TheConstants.{MAX_VALUE_SIZE, MAX_ID_SKEW, MAX_OBJECT_NUMBER, MAX_OBJECTS, MAX_MAP_CELLS, MAX_OBJECT_WEIGHT, MAX_POOL_WEIGHT}

@@ -1,9 +1,8 @@
 -- What one operation makes of the objects that are held: the form that the machines cite.
-use Rattle.std.specs.Prelude.{ℕ, suc, Bool, true, false, ◌&&◌, ◌||◌, not, if◌then◌else◌, nat_lt, List, [], ◌∷◌, filter, filter_map, find, map, Option, Some, None, is_none, is_some, option_map, unwrap_or, bytes_eq, ℤ, pos, ◌+ℤ◌, unsigned_abs}
+use Rattle.std.specs.Prelude.{ℕ, suc, Bool, true, false, ◌&&◌, ◌||◌, not, if◌then◌else◌, nat_lt, List, [], ◌∷◌, filter, filter_map, find, map, Option, Some, None, is_none, is_some, option_map, unwrap_or, ℤ, pos, ◌+ℤ◌, unsigned_abs}
 use Rattle.std.specs.Option.{option_map_or}
 use Rattle.std.specs.List.{list_any}
-use Rattle.std.specs.Ordering.{nat_cmp, match_ordering}
-use Rattle.std.specs.Cmp.Lexicographic.{slice_cmp}
+use Rattle.std.specs.Ordering.{match_ordering}
 use Rattle.rl_numbers.specs.declared.limits.TheConstants.{MAX_COUNTER_SUM}
 use Rattle.rl_ids.specs.declared.objects.ObjectKind.{ObjectKind}
 use Rattle.rl_ids.specs.declared.objects.ObjectKind.TheVariants as kinds

@@ -1,4 +1,4 @@
-use Rattle.std.proofs.Common.{◌≡◌, ◌≤◌, ◌-◌, ℕ, suc, refl, ◌∙◌, arith, length}
+use Rattle.std.proofs.Common.{◌≡◌, ◌-◌, suc, refl, ◌∙◌, arith}
 use Rattle.rl_livemap.specs.Stamps.{stamped}
 use Rattle.rl_livemap.proofs.Stamped.{length-stamped}
 use Rattle.rl_livemap.proofs.Dropped.{none_behind, dropped_one, dropped_all, kept_dropped}

@@ -1,4 +1,4 @@
-use Rattle.std.proofs.Common.{◌≡◌, ℕ, Bool, List, ap, ◌∙◌, sym, get_or}
+use Rattle.std.proofs.Common.{◌≡◌, ℕ, Bool, List, ap, ◌∙◌, sym}
 use Rattle.std.specs.Prelude.{◌||◌}
 use Rattle.rl_ids.specs.declared.objects.MapValue.{MapValue}
 use Rattle.rl_objmodel.specs.Steps.{entry_write}
@@ -15,8 +15,8 @@ loop-entry-preserved c =
     let one = c.in_ok-one.one in
     let same = pair_is c.as_str.result.now c.in_ok-value.value d c.as_str.ensures c.in_ok-value.ensures ∙ c.entry-item.is in
     let last : c.if-changed.changed ≡ (c.loop-entry.changed || one) = elim c.if-changed.branch [
-      then-changed w ↦ w.changed-is ∙ w.if-changed.true ∙ sym (ap (λ (b : Bool). b || one) w.if-changed.true)
-    | else-changed w ↦ w.changed-is ∙ sym (ap (λ (b : Bool). b || one) w.if-changed.false)
+      | then-changed w ↦ w.changed-is ∙ w.if-changed.true ∙ sym (ap (λ (b : Bool). b || one) w.if-changed.true)
+      | else-changed w ↦ w.changed-is ∙ sym (ap (λ (b : Bool). b || one) w.if-changed.false)
     ] in
     record {
       cells = held_more (entry_write serial) entries i d c.args.self.now c.loop-entry.self c.set.new.self (entry_write serial (c.as_str.result.now, c.in_ok-value.value)) c.loop-entry-test.true c.loop-entry.invariant.cells (ap (entry_write serial) same) c.in_ok-one.ensures.step;

@@ -1,4 +1,4 @@
-use Rattle.std.proofs.Common.{List, ap, ◌∙◌, sym, get_or}
+use Rattle.std.proofs.Common.{ap, ◌∙◌}
 use Rattle.rl_objmodel.specs.Steps.{told_write}
 use Rattle.rl_livemap.proofs.Merged.{held_more, pair_is}
 use Rattle.rl_livemap.proofs.livemap.LiveMap.tell.Goals as goal
