@@ -101,7 +101,7 @@ module _ {T : Type 0} where
   twice_at text x y p ps Equal h rest = with_equal text y (text, x) ps (tied_itself nat_list_cmp_total text)
   twice_at text x y p ps Greater h rest = with_more text y p (with_at text x ps) h ∙ ap (λ (all : List (List ℕ × T)). p ∷ all) rest
 
-  twice : (text : List ℕ) (x y : T) (all : List (List ℕ × T)) → with_at text y (with_at text x all) ≡ with_at text y all
+  pub twice : (text : List ℕ) (x y : T) (all : List (List ℕ × T)) → with_at text y (with_at text x all) ≡ with_at text y all
   twice text x y [] = with_equal text y (text, x) [] (tied_itself nat_list_cmp_total text)
   twice text x y (p ∷ ps) = twice_at text x y p ps (slice_cmp nat_cmp text p.0) refl (twice text x y ps)
 
@@ -365,7 +365,7 @@ module _ (stamp : ℕ) where
       ∙ sym (stays s op id (with_site o sites) (is_create op2 || created) (body_after stamp o op2 created body) h)
       ∙ sym (ap (held_with stamp s op) (stays o op2 id sites created body k))
 
-  parts : (s o : OpSerial) (op op2 : Op) (id : ObjectId) (sites : Sites) (deleted : Option ℕ) (created : Bool) (body : HeldBody) → bytes_eq s.site o.site ≡ false → (is_create op && is_create op2) ≡ false
+  pub parts : (s o : OpSerial) (op op2 : Op) (id : ObjectId) (sites : Sites) (deleted : Option ℕ) (created : Bool) (body : HeldBody) → bytes_eq s.site o.site ≡ false → (is_create op && is_create op2) ≡ false
       → held_with stamp o op2 (held_with stamp s op (object_with id sites deleted created body)) ≡ held_with stamp s op (held_with stamp o op2 (object_with id sites deleted created body))
   parts s o op op2 id sites (Some d) created body apart once = ap (λ (xs : Sites). object_with id xs (Some d) created body) (sites_either s o sites apart)
   parts s o op op2 id sites None created body apart once = alive s o op op2 id sites created body (is_delete op) (is_delete op2) refl refl apart once
@@ -390,7 +390,7 @@ module _ (stamp : ℕ) where
   test_by s o op op2 held (Some d) apart = ap (λ (there : Option OpSerial). is_misplaced op2 held || not (is_above there o)) (there_other s.site o.site s held.sites (eq_back s.site o.site false apart))
   test_by s o op op2 held None apart = ap (λ (there : Option OpSerial). is_misplaced op2 held || not (is_above there o)) (there_other s.site o.site s held.sites (eq_back s.site o.site false apart))
 
-  test_stays : (s o : OpSerial) (op op2 : Op) (held : Held) → bytes_eq s.site o.site ≡ false → skips o op2 (held_with stamp s op held) ≡ skips o op2 held
+  pub test_stays : (s o : OpSerial) (op op2 : Op) (held : Held) → bytes_eq s.site o.site ≡ false → skips o op2 (held_with stamp s op held) ≡ skips o op2 held
   test_stays s o op op2 held apart = test_by s o op op2 held held.deleted apart
 
   skipped : (s : OpSerial) (op : Op) (held : Held) → skips s op held ≡ true → taken s op held ≡ held

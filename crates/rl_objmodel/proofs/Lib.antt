@@ -4,4 +4,5 @@ pub mod PlacesFound
 pub mod CommutingOps
 pub mod CollectingTwice
 pub mod AgreeingLists
+pub mod AgreeingPools
 pub mod CollectingKept

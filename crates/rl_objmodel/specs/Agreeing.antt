@@ -1,12 +1,13 @@
--- Two lists of operations that have each site's in the same order leave the same of an object.
-use Rattle.std.specs.Prelude.{⊤, ◌≡◌, ℕ, Bool, true, false, List, [], ◌∷◌, filter, Option, Some, None, is_some, bytes_eq}
-use Rattle.std.specs.List.{list_any, list_all}
+-- Pools that took the same operations, each site's in the same order, agree.
+use Rattle.std.specs.Prelude.{⊤, ◌≡◌, ℕ, Bool, true, false, ◌&&◌, List, [], ◌∷◌, filter, Option, Some, None, is_some, bytes_eq}
+use Rattle.std.specs.List.{list_any, list_all, AllByRecursion}
+use Rattle.std.specs.Ordering.{is_eq}
 use Rattle.rl_ids.specs.declared.serials.OpSerial.{OpSerial}
-use Rattle.rl_types.specs.declared.objects.Op.{Op}
+use Rattle.rl_ids.specs.Objects.{id_cmp, IsIdInRange}
 use Rattle.rl_types.specs.declared.objects.ObjectOp.{ObjectOp}
-use Rattle.rl_objmodel.specs.Operations.{is_create}
+use Rattle.rl_objmodel.specs.Operations.{id_in, is_create}
 use Rattle.rl_objmodel.specs.Held.{Held}
-use Rattle.rl_objmodel.specs.Steps.{outcome, held_after}
+use Rattle.rl_objmodel.specs.Steps.{pool_outcome, pool_after_op, pool_after}
 use Rattle.rl_objmodel.specs.Commuting.{is_range}
 
 abbrev pub has_site : List ℕ → Option OpSerial → Bool
@@ -25,36 +26,26 @@ pub record SameBySite (xs ys : List ObjectOp) : Type 0 where
   pub others : list_all has_serial ys ≡ true
   pub same : (site : List ℕ) → filter (is_of_site site) xs ≡ filter (is_of_site site) ys
 
-abbrev pub makes : ObjectOp → Bool
-makes op = is_create op.op
+-- both create one object
+abbrev pub are_both : ObjectOp → ObjectOp → Bool
+are_both one other = is_create one.op && is_create other.op && is_eq (id_cmp (id_in one.op) (id_in other.op))
 
--- at most one of them is a create
+-- no object is created twice
 abbrev pub CreatesOnce : List ObjectOp → Type 0
 CreatesOnce [] = ⊤
-CreatesOnce (op ∷ ops) = (makes op ≡ true → list_any makes ops ≡ false) × CreatesOnce ops
+CreatesOnce (op ∷ ops) = (list_any (are_both op) ops ≡ false) × CreatesOnce ops
 
--- one object, after operations on it with one stamp, one after another
-
-abbrev pub object_after : ℕ → Option OpSerial → Op → Held → Held
-object_after stamp None op held = held
-object_after stamp (Some serial) op held = held_after stamp serial op held
-
-abbrev pub objects_after : ℕ → List ObjectOp → Held → Held
-objects_after stamp [] held = held
-objects_after stamp (op ∷ ops) held = objects_after stamp ops (object_after stamp op.serial op.op held)
-
-abbrev pub passes_sum : Option OpSerial → Op → Held → Bool
-passes_sum None op held = false
-passes_sum (Some serial) op held = is_range (outcome serial op held)
+-- the ids that they name fit
+abbrev pub AreInRange : List ObjectOp → Type 0
+AreInRange ops = AllByRecursion (λ (op : ObjectOp). IsIdInRange (id_in op.op)) ops
 
 -- none of them brings a sum past its range
-abbrev pub NonePasses : ℕ → List ObjectOp → Held → Type 0
-NonePasses stamp [] held = ⊤
-NonePasses stamp (op ∷ ops) held =
-    (passes_sum op.serial op.op held ≡ false) × NonePasses stamp ops (object_after stamp op.serial op.op held)
+abbrev pub NonePasses : ℕ → List ObjectOp → List Held → Type 0
+NonePasses stamp [] pool = ⊤
+NonePasses stamp (op ∷ ops) pool = (is_range (pool_outcome op pool) ≡ false) × NonePasses stamp ops (pool_after_op stamp op pool)
 
--- an object that takes the same operations of each site, in any order of sites, is the same in the end, where it is
--- created once and no sum passes its range
-abbrev pub ObjectsAgree : Type 0
-ObjectsAgree = (stamp : ℕ) (xs ys : List ObjectOp) (held : Held) → SameBySite xs ys → CreatesOnce xs
-    → NonePasses stamp xs held → NonePasses stamp ys held → objects_after stamp xs held ≡ objects_after stamp ys held
+-- pools that began equal, and took lists that have each site's operations in the same order, are equal, where no object
+-- is created twice and no sum passes its range
+abbrev pub PoolsAgree : Type 0
+PoolsAgree = (stamp : ℕ) (xs ys : List ObjectOp) (pool : List Held) → SameBySite xs ys → CreatesOnce xs → AreInRange xs
+    → NonePasses stamp xs pool → NonePasses stamp ys pool → pool_after stamp xs pool ≡ pool_after stamp ys pool

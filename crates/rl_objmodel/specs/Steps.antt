@@ -2,7 +2,7 @@
 use Rattle.std.specs.Prelude.{ℕ, suc, Bool, true, false, ◌&&◌, ◌||◌, not, if◌then◌else◌, nat_lt, List, [], ◌∷◌, filter, filter_map, find, map, Option, Some, None, is_none, is_some, option_map, unwrap_or, ℤ, pos, ◌+ℤ◌, unsigned_abs}
 use Rattle.std.specs.Option.{option_map_or}
 use Rattle.std.specs.List.{list_any}
-use Rattle.std.specs.Ordering.{match_ordering}
+use Rattle.std.specs.Ordering.{match_ordering, is_eq}
 use Rattle.rl_numbers.specs.declared.limits.TheConstants.{MAX_COUNTER_SUM}
 use Rattle.rl_ids.specs.declared.objects.ObjectKind.{ObjectKind}
 use Rattle.rl_ids.specs.declared.objects.ObjectKind.TheVariants as kinds
@@ -10,7 +10,7 @@ use Rattle.rl_ids.specs.declared.objects.ObjectId.{ObjectId}
 use Rattle.rl_ids.specs.declared.objects.ObjectId.TheVariants.{Root}
 use Rattle.rl_ids.specs.declared.objects.MapValue.{MapValue}
 use Rattle.rl_ids.specs.declared.serials.OpSerial.{OpSerial}
-use Rattle.rl_ids.specs.Objects.{id_cmp, kind_of, is_below, same_id}
+use Rattle.rl_ids.specs.Objects.{id_cmp, kind_of, is_below}
 use Rattle.rl_types.specs.declared.objects.Op.{Op}
 use Rattle.rl_types.specs.declared.objects.Op.TheVariants.{MapCreate, MapSet, MapRemove, CounterCreate, CounterInc, Delete}
 use Rattle.rl_types.specs.declared.objects.ObjectOp.{ObjectOp}
@@ -256,8 +256,9 @@ held_after stamp serial op held = held_if (outcome serial op held) (held_with st
 abbrev pub new_held : ObjectId → Held
 new_held id = record { id = id; sites = []; deleted = None; created = false; body = empty_body (kind_of id) }
 
+-- ids are told apart by their texts
 abbrev pub is_held_as : ObjectId → Held → Bool
-is_held_as id held = same_id id held.id
+is_held_as id held = is_eq (id_cmp id held.id)
 
 abbrev pub held_at : ObjectId → List Held → Option Held
 held_at id pool = find (is_held_as id) pool

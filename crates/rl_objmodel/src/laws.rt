@@ -1,5 +1,5 @@
 //! Laws over the definitions alone. Each is a function that does nothing: its contract is the law.
-ghost use Rattle.rl_objmodel.specs.Agreeing.{ObjectsAgree};
+ghost use Rattle.rl_objmodel.specs.Agreeing.{PoolsAgree};
 ghost use Rattle.rl_objmodel.specs.Collecting.{LastTickCounts, TicksCollect};
 ghost use Rattle.rl_objmodel.specs.Commuting.{EitherOrder};
 ghost use Rattle.rl_objmodel.specs.Examples.{CountersCount, CellsAreGreatest, LengthsAreBounded, TargetsAreJudged, ReferencesAreJudged, NumbersAreBounded, PoolsAreBounded, TombstonesAreCollected, LiveObjectsRead, StepsAreDefined, StepsAreTaken};
@@ -77,11 +77,11 @@ pub fn either_order()
     ensures { EitherOrder }
 {}
 
-/// An object that takes the same operations of each site, in any order of sites, is the same in the end, where it is
-/// created once and no sum passes its range.
-#[tactic(auto, using(crate::proofs::AgreeingLists::objects_agree))]
-pub fn objects_agree()
-    ensures { ObjectsAgree }
+/// Pools that began equal, and took lists that have each site's operations in the same order, are equal, where no
+/// object is created twice and no sum passes its range.
+#[tactic(auto, using(crate::proofs::AgreeingPools::pools_agree))]
+pub fn pools_agree()
+    ensures { PoolsAgree }
 {}
 
 /// A Tick after an earlier one leaves what it would have left alone.
