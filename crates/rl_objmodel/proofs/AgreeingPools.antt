@@ -1,6 +1,6 @@
--- Pools that took the same operations, each site's in the same order, agree.
+-- Pools that took the same operations with one stamp, each site's in the same order, agree.
 use Rattle.std.proofs.Common.{◌≡◌, ℕ, Bool, true, false, cond, List, [], ◌∷◌, refl, ap, sym, subst, ◌∙◌}
-use Rattle.std.specs.Prelude.{map, ◌&&◌, ◌||◌, not, is_none, bytes_eq, unwrap_or, Option, Some, None}
+use Rattle.std.specs.Prelude.{⊤, map, ◌&&◌, ◌||◌, not, is_none, bytes_eq, unwrap_or, Option, Some, None}
 use Rattle.std.specs.declared.cmp.Ordering.{Ordering}
 use Rattle.std.specs.declared.cmp.Ordering.TheVariants.{Less, Equal, Greater}
 use Rattle.std.specs.Ordering.{nat_cmp, match_ordering, is_eq}
@@ -19,7 +19,7 @@ use Rattle.rl_objmodel.specs.Held.{Held}
 use Rattle.rl_objmodel.specs.Places.{at_text, with_at}
 use Rattle.rl_objmodel.specs.Steps.{added, body_passes_range, outcome, held_by, held_with, new_held, held_at, target, with_held, pool_outcome_by, pool_if, pool_with, pool_after_op, pool_after}
 use Rattle.rl_objmodel.specs.Commuting.{is_range}
-use Rattle.rl_objmodel.specs.Agreeing.{has_site, SameBySite, are_both, NonePasses, PoolsAgree}
+use Rattle.rl_objmodel.specs.Agreeing.{has_site, SameBySite, are_both, CreatesOnce, AreInRange}
 use Rattle.rl_objmodel.proofs.PlacesHeld.{texts_same, there_with}
 use Rattle.rl_objmodel.proofs.CommutingOps.{twice, there_other, with_either, eq_back, skips, test_stays, parts}
 use Rattle.rl_objmodel.proofs.AgreeingLists.{steps, agree}
@@ -133,7 +133,12 @@ module _ (stamp : ℕ) where
       let held = target (id_in op) pool in
       if_applied (skips stamp serial op held) (is_none held.deleted && body_passes_range held.body (added op held.created)) (with_held (held_with stamp serial op held) pool) pool h
 
-  all_taken : (ops : List ObjectOp) (pool : Pool) → NonePasses stamp ops pool → pool_after stamp ops pool ≡ steps Pool step ops pool
+  -- none of them brings a sum past its range
+  abbrev pub NoneAt : List ObjectOp → Pool → Type 0
+  NoneAt [] pool = ⊤
+  NoneAt (op ∷ ops) pool = (is_range (pool_outcome_by op.serial op.op pool) ≡ false) × NoneAt ops (pool_after_op stamp op pool)
+
+  all_taken : (ops : List ObjectOp) (pool : Pool) → NoneAt ops pool → pool_after stamp ops pool ≡ steps Pool step ops pool
   all_taken [] pool h = refl
   all_taken (op ∷ ops) pool h = all_taken ops (pool_after_op stamp op pool) h.1 ∙ ap (steps Pool step ops) (one_taken op.serial op.op pool h.0)
 
@@ -242,8 +247,8 @@ module _ (stamp : ℕ) where
   swap : (x y : ObjectOp) (pool : Pool) (site : List ℕ) → has_site site x.serial ≡ false → has_site site y.serial ≡ true → are_both x y ≡ false → IsIdInRange (id_in x.op) → IsIdInRange (id_in y.op) → step y (step x pool) ≡ step x (step y pool)
   swap x y pool site h k clash fits fits2 = either x.serial y.serial x.op y.op pool site h k clash fits fits2
 
-pub pools_agree : PoolsAgree
-pools_agree stamp xs ys pool same once fits h k =
+pub agree_at : (stamp : ℕ) (xs ys : List ObjectOp) (pool : Pool) → SameBySite xs ys → CreatesOnce xs → AreInRange xs → NoneAt stamp xs pool → NoneAt stamp ys pool → pool_after stamp xs pool ≡ pool_after stamp ys pool
+agree_at stamp xs ys pool same once fits h k =
     all_taken stamp xs pool h
     ∙ agree Pool (step stamp) are_both (λ (op : ObjectOp). IsIdInRange (id_in op.op)) (swap stamp) ys xs pool once fits same.serials same.others same.same
     ∙ sym (all_taken stamp ys pool k)

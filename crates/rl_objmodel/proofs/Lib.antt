@@ -5,4 +5,6 @@ pub mod CommutingOps
 pub mod CollectingTwice
 pub mod AgreeingLists
 pub mod AgreeingPools
+pub mod Unstamped
+pub mod AgreeingStates
 pub mod CollectingKept

@@ -77,9 +77,9 @@ pub fn either_order()
     ensures { EitherOrder }
 {}
 
-/// Pools that began equal, and took lists that have each site's operations in the same order, are equal, where no
-/// object is created twice and no sum passes its range.
-#[tactic(auto, using(crate::proofs::AgreeingPools::pools_agree))]
+/// Pools that began equal, and took lists that have each site's operations in the same order, show the same objects,
+/// whenever they took them, where no object is created twice, no sum passes its range and nothing is collected.
+#[tactic(auto, using(crate::proofs::AgreeingStates::pools_agree))]
 pub fn pools_agree()
     ensures { PoolsAgree }
 {}
