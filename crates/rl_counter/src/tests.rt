@@ -1,6 +1,6 @@
 // What no clause says: that calls succeed where memory lasts.
 use crate::{Applied, Counter};
-use rl_ids::{List, NoMemory, ObjectId, OpSerial, Place, read_site};
+use rl_ids::{Copied, List, NoMemory, ObjectId, OpSerial, Place, read_site};
 use rl_numbers::limits::MAX_COUNTER_SUM;
 use rl_types::{ObjectBody, ObjectState, Op};
 use std::alloc::Global;
@@ -49,6 +49,7 @@ fn operations_are_applied_once(rt: HostRuntime) -> Result<(), NoMemory> {
     assert!(rt; inc(&mut counter, 2, 2) == Some(Applied::Applied));
     assert!(rt; inc(&mut counter, 2, 2) == Some(Applied::Skipped));
     assert!(rt; counter.value() == 7);
+    assert!(rt; counter.copy(alloc)?.value() == 7);
     let mut full = counter_of(alloc, MAX_COUNTER_SUM)?;
     assert!(rt; inc(&mut full, 1, 1) == Some(Applied::Range));
     assert!(rt; inc(&mut full, 0, 1) == Some(Applied::Applied));
