@@ -25,7 +25,7 @@ use Rattle.rl_objmodel.proofs.PlacesHeld.{texts_same, texts_itself, equal_same, 
 
 -- SERIALS
 
-serials_total : IsTotalOrder serial_cmp
+pub serials_total : IsTotalOrder serial_cmp
 serials_total = then_total (on_total (λ (s : OpSerial). s.place) nat_cmp_total) (then_total (on_total (λ (s : OpSerial). s.index) nat_cmp_total) (on_total (λ (s : OpSerial). s.site) nat_list_cmp_total))
 
 lt_is : (o : Ordering) → is_lt o ≡ true → o ≡ Less

@@ -8,3 +8,6 @@ pub mod AgreeingPools
 pub mod Unstamped
 pub mod AgreeingStates
 pub mod CollectingKept
+pub mod Entering
+pub mod FollowingObjects
+pub mod FollowingPools

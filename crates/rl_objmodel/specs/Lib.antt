@@ -8,3 +8,4 @@ pub mod Examples
 pub mod Commuting
 pub mod Collecting
 pub mod Agreeing
+pub mod Following

@@ -2,6 +2,7 @@
 ghost use Rattle.rl_objmodel.specs.Agreeing.{PoolsAgree};
 ghost use Rattle.rl_objmodel.specs.Collecting.{LastTickCounts, TicksCollect};
 ghost use Rattle.rl_objmodel.specs.Commuting.{EitherOrder};
+ghost use Rattle.rl_objmodel.specs.Following.{OneMore};
 ghost use Rattle.rl_objmodel.specs.Examples.{CountersCount, CellsAreGreatest, LengthsAreBounded, TargetsAreJudged, ReferencesAreJudged, NumbersAreBounded, PoolsAreBounded, TombstonesAreCollected, LiveObjectsRead, StepsAreDefined, StepsAreTaken};
 
 /// What counters have: the count of their create, and the amounts of their increments.
@@ -94,4 +95,10 @@ pub fn last_tick_counts()
 #[tactic(auto, using(crate::proofs::CollectingKept::ticks_collect))]
 pub fn ticks_collect()
     ensures { TicksCollect }
+{}
+
+/// What is kept of a log with one more operation is what the step makes of what was kept.
+#[tactic(auto, using(crate::proofs::FollowingPools::one_more))]
+pub fn one_more()
+    ensures { OneMore }
 {}
