@@ -1,7 +1,7 @@
 -- Two lists of operations that have each site's in the same order lead to the same, where operations of two sites may
 -- come in either order.
 use Rattle.std.proofs.Common.{◌≡◌, ℕ, Bool, true, false, cond, List, [], ◌∷◌, refl, ap, sym, subst, ◌∙◌}
-use Rattle.std.specs.Prelude.{⊤, filter, ◌&&◌, ◌||◌, bytes_eq, Option, Some, None}
+use Rattle.std.specs.Prelude.{⊤, filter, ◌&&◌, ◌||◌, Option, Some, None}
 use Rattle.std.specs.List.{list_any, list_all, AllByRecursion}
 use Rattle.rl_ids.specs.declared.serials.OpSerial.{OpSerial}
 use Rattle.rl_types.specs.declared.objects.ObjectOp.{ObjectOp}
@@ -40,6 +40,7 @@ none_within test site (x ∷ xs) y rest h none = by_test (is_of_site site x) h (
     neither : (a b : Bool) → (a || b) ≡ false → (a ≡ false) × (b ≡ false)
     neither true b h = cc
     neither false b h = (refl, h)
+
     by_test : (b : Bool) → cond b (x ∷ filter (is_of_site site) xs) (filter (is_of_site site) xs) ≡ y ∷ rest → (test x ≡ false) × (list_any test xs ≡ false) → (filter (is_of_site site) xs ≡ y ∷ rest → list_any test xs ≡ false → test y ≡ false) → test y ≡ false
     by_test true h both more = ap test (sym (head_of x y _ _ h)) ∙ both.0
     by_test false h both more = more h both.1

@@ -1,10 +1,9 @@
 -- Pools that took the same operations with one stamp, each site's in the same order, agree.
-use Rattle.std.proofs.Common.{◌≡◌, ℕ, Bool, true, false, cond, List, [], ◌∷◌, refl, ap, sym, subst, ◌∙◌}
-use Rattle.std.specs.Prelude.{⊤, map, ◌&&◌, ◌||◌, not, is_none, bytes_eq, unwrap_or, Option, Some, None}
+use Rattle.std.proofs.Common.{◌≡◌, ℕ, Bool, true, false, cond, List, [], ◌∷◌, refl, ap, sym, ◌∙◌}
+use Rattle.std.specs.Prelude.{⊤, map, ◌&&◌, is_none, bytes_eq, unwrap_or, Option, Some, None}
 use Rattle.std.specs.declared.cmp.Ordering.{Ordering}
 use Rattle.std.specs.declared.cmp.Ordering.TheVariants.{Less, Equal, Greater}
-use Rattle.std.specs.Ordering.{nat_cmp, match_ordering, is_eq}
-use Rattle.std.specs.Cmp.Lexicographic.{slice_cmp}
+use Rattle.std.specs.Ordering.{match_ordering, is_eq}
 use Rattle.std.proofs.lemmas.Map.Text.{is_eq-slice_cmp}
 use Rattle.rl_ids.specs.declared.objects.ObjectId.{ObjectId}
 use Rattle.rl_ids.specs.declared.serials.OpSerial.{OpSerial}
@@ -12,12 +11,11 @@ use Rattle.rl_ids.specs.Objects.{object_id_text, id_cmp, IsIdInRange}
 use Rattle.rl_ids.proofs.ObjectTexts.{object_id_texts_differ}
 use Rattle.rl_types.specs.declared.objects.Op.{Op}
 use Rattle.rl_types.specs.declared.objects.ObjectOp.{ObjectOp}
-use Rattle.rl_objmodel.specs.declared.plain.Applied.{Applied}
 use Rattle.rl_objmodel.specs.declared.plain.Applied.TheVariants as outcomes
 use Rattle.rl_objmodel.specs.Operations.{id_in, is_create}
 use Rattle.rl_objmodel.specs.Held.{Held}
 use Rattle.rl_objmodel.specs.Places.{at_text, with_at}
-use Rattle.rl_objmodel.specs.Steps.{added, body_passes_range, outcome, held_by, held_with, new_held, held_at, target, with_held, pool_outcome_by, pool_if, pool_with, pool_after_op, pool_after}
+use Rattle.rl_objmodel.specs.Steps.{added, body_passes_range, held_by, held_with, new_held, held_at, target, with_held, pool_outcome_by, pool_if, pool_with, pool_after_op, pool_after}
 use Rattle.rl_objmodel.specs.Commuting.{is_range}
 use Rattle.rl_objmodel.specs.Agreeing.{has_site, SameBySite, are_both, CreatesOnce, AreInRange}
 use Rattle.rl_objmodel.proofs.PlacesHeld.{texts_same, there_with}

@@ -1,6 +1,5 @@
 -- Pools that took the same operations, each site's in the same order, show the same, whenever they took them.
-use Rattle.std.proofs.Common.{◌≡◌, ℕ, false, List, [], ◌∷◌, refl, ap, sym, subst, ◌∙◌}
-use Rattle.rl_types.specs.declared.objects.ObjectOp.{ObjectOp}
+use Rattle.std.proofs.Common.{◌≡◌, List, [], ◌∷◌, refl, ap, sym, subst, ◌∙◌}
 use Rattle.rl_objmodel.specs.Operations.{Stamped}
 use Rattle.rl_objmodel.specs.Held.{Held}
 use Rattle.rl_objmodel.specs.Steps.{pool_after_op, pool_after, states}
@@ -15,9 +14,10 @@ forgotten (one ∷ more) pool = forgotten more (pool_after_op one.stamp one.op p
 
 none_passes : (xs : List Stamped) (pool : List Held) → NonePasses xs pool → NoneAt 0 (ops_of xs) (no_stamps pool)
 none_passes [] pool h = tt
-none_passes (one ∷ more) pool h =
-    (ap is_range (outcome_of one.op pool) ∙ h.0,
-    subst (λ (p : List Held). NoneAt 0 (ops_of more) p) (one_same one.stamp one.op pool) (none_passes more (pool_after_op one.stamp one.op pool) h.1))
+none_passes (one ∷ more) pool h = (
+  ap is_range (outcome_of one.op pool) ∙ h.0,
+  subst (λ (p : List Held). NoneAt 0 (ops_of more) p) (one_same one.stamp one.op pool) (none_passes more (pool_after_op one.stamp one.op pool) h.1),
+)
 
 pub pools_agree : PoolsAgree
 pools_agree xs ys pool same once fits h k =

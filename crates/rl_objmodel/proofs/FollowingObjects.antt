@@ -1,10 +1,9 @@
 -- What one more operation makes of one object, by the definitions and by the step.
-use Rattle.std.proofs.Common.{◌≡◌, ℕ, Bool, true, false, cond, List, [], ◌∷◌, ◌++◌, refl, ap, sym, subst, ◌∙◌, arith, append_assoc}
+use Rattle.std.proofs.Common.{◌≡◌, ℕ, Bool, true, false, cond, List, [], ◌∷◌, ◌++◌, refl, ap, sym, subst, ◌∙◌, arith}
 use Rattle.std.specs.Prelude.{⊤, filter, filter_map, find, map, reverse, ◌&&◌, ◌||◌, not, bytes_eq, unwrap_or, option_map, option_and_then, Option, Some, None, ℤ, pos, ◌+ℤ◌}
 use Rattle.std.specs.List.{list_any, AllByRecursion, cons_option}
 use Rattle.std.specs.declared.cmp.Ordering.{Ordering}
-use Rattle.std.specs.declared.cmp.Ordering.TheVariants.{Less, Equal, Greater}
-use Rattle.std.specs.Ordering.{nat_cmp, match_ordering, is_eq, is_lt}
+use Rattle.std.specs.Ordering.{nat_cmp, match_ordering, is_lt}
 use Rattle.std.specs.Cmp.Lexicographic.{slice_cmp}
 use Rattle.std.proofs.lemmas.Cmp.{nat_list_cmp_total, tied_itself}
 use Rattle.std.proofs.lemmas.List.{reverse-append}
@@ -16,21 +15,19 @@ use Rattle.rl_ids.specs.declared.objects.ObjectId.{ObjectId}
 use Rattle.rl_ids.specs.declared.objects.ObjectId.TheVariants.{Root, Made}
 use Rattle.rl_ids.specs.declared.objects.MapValue.{MapValue}
 use Rattle.rl_ids.specs.declared.serials.OpSerial.{OpSerial}
-use Rattle.rl_ids.specs.Objects.{kind_of, is_below, serial_cmp}
+use Rattle.rl_ids.specs.Objects.{kind_of, is_below}
 use Rattle.rl_types.specs.declared.objects.Op.{Op}
 use Rattle.rl_types.specs.declared.objects.Op.TheVariants.{MapCreate, MapSet, MapRemove, CounterCreate, CounterInc, Delete}
-use Rattle.rl_types.specs.declared.objects.ObjectOp.{ObjectOp}
-use Rattle.rl_objmodel.specs.declared.plain.Applied.{Applied}
 use Rattle.rl_objmodel.specs.declared.plain.Applied.TheVariants as outcomes
 use Rattle.rl_objmodel.specs.Operations.{Stamped, stamped_at, id_in, creates, deletes, is_delete, is_create, keys_of, suits, is_root}
-use Rattle.rl_objmodel.specs.Held.{Written, Value, Removed, Write, value_written, removal, Cells, is_collected, is_collected_write, HeldBody, Sum, Keys, Held, empty_body}
-use Rattle.rl_objmodel.specs.Objects.{amounts, count_of, sum_of, values_at, written_if, writes, greater, greatest, with_text, with_texts, keys_in, serials, sites_in, is_at, greater_serial, greatest_serial, site_of, sites, kept_write, kept_cell, body_of, standing, tombstone, kept_by}
+use Rattle.rl_objmodel.specs.Held.{Write, value_written, removal, Cells, is_collected, is_collected_write, HeldBody, Sum, Keys, Held, empty_body}
+use Rattle.rl_objmodel.specs.Objects.{amounts, count_of, values_at, written_if, writes, greater, greatest, with_text, with_texts, keys_in, serials, sites_in, is_at, greater_serial, greatest_serial, site_of, sites, kept_write, kept_cell, body_of, standing, tombstone, kept_by}
 use Rattle.rl_objmodel.specs.Places.{at_text, with_at}
-use Rattle.rl_objmodel.specs.Steps.{is_above, passes, with_site, with_write, with_writes, entry_writes, emptied, on_cells, added, body_passes_range, is_misplaced, outcome, created_after, deleted_after, body_after, held_with, new_held}
-use Rattle.rl_objmodel.specs.Following.{Begins, Stands, Lives, SumFits, Follows, op_with}
+use Rattle.rl_objmodel.specs.Steps.{is_above, passes, with_site, with_write, with_writes, entry_writes, emptied, on_cells, added, body_passes_range, outcome, created_after, deleted_after, body_after, held_with, new_held}
+use Rattle.rl_objmodel.specs.Following.{Stands, Follows, op_with}
 use Rattle.rl_objmodel.proofs.PlacesHeld.{texts_same, texts_itself, equal_same, there_with}
 use Rattle.rl_objmodel.proofs.CommutingOps.{eq_back, twice, there_other, with_either, serials_total}
-use Rattle.rl_objmodel.proofs.Entering.{put_key, put, KeysRise, rise_with, Differ, OfIt, TiedIn, entered}
+use Rattle.rl_objmodel.proofs.Entering.{put_key, put, KeysRise, rise_with, TiedIn, entered}
 
 -- TEXTS WITH SOMETHING AT EACH
 
@@ -227,6 +224,7 @@ cell_entry ticked serial key text (Some w) rest h more = by (is_collected_write 
     at : (b : Bool) → IsWriteAt serial (cond b (Some w) (at_text text rest))
     at true = h
     at false = more
+
     by : (b : Bool) → IsWriteAt serial (at_text text (cons_option (cond b None (Some (key, w))) rest))
     by true = more
     by false = at (bytes_eq text key)

@@ -1,13 +1,12 @@
 -- What one more operation makes of all that is kept.
 use Rattle.std.proofs.Common.{◌≡◌, inl, inr, ℕ, Bool, true, false, cond, List, [], ◌∷◌, refl, ap, sym, subst, ◌∙◌, arith}
-use Rattle.std.specs.Prelude.{◌⊎◌, filter, filter_map, find, ◌&&◌, ◌||◌, ◌==◌, not, bytes_eq, unwrap_or, Option, Some, None}
+use Rattle.std.specs.Prelude.{◌⊎◌, filter_map, find, ◌&&◌, ◌||◌, ◌==◌, not, bytes_eq, unwrap_or, Option, Some, None}
 use Rattle.std.specs.List.{list_any, AllByRecursion, cons_option}
 use Rattle.std.proofs.lemmas.Bool.{eq-eqb}
 use Rattle.std.specs.declared.cmp.Ordering.{Ordering}
 use Rattle.std.specs.declared.cmp.Ordering.TheVariants.{Less, Equal, Greater}
-use Rattle.std.specs.Ordering.{nat_cmp, match_ordering, is_eq}
+use Rattle.std.specs.Ordering.{match_ordering, is_eq}
 use Rattle.std.specs.Cmp.{IsTotalOrder}
-use Rattle.std.specs.Cmp.Lexicographic.{slice_cmp}
 use Rattle.std.proofs.lemmas.Cmp.{nat_list_cmp_total, on_total, tied_itself}
 use Rattle.std.proofs.lemmas.Bool.Decides.{nat_tests}
 use Rattle.rl_ids.specs.declared.objects.ObjectKind.{ObjectKind}
@@ -20,15 +19,14 @@ use Rattle.rl_ids.proofs.ObjectTexts.{object_id_texts_differ}
 use Rattle.rl_types.specs.declared.objects.Op.{Op}
 use Rattle.rl_types.specs.declared.objects.Op.TheVariants.{MapCreate, MapSet, MapRemove, CounterCreate, CounterInc, Delete}
 use Rattle.rl_objmodel.specs.declared.plain.Applied.{Applied}
-use Rattle.rl_objmodel.specs.declared.plain.Applied.TheVariants as outcomes
-use Rattle.rl_objmodel.specs.Operations.{Stamped, id_in, id_of, names, own, creates, deletes, is_root}
+use Rattle.rl_objmodel.specs.Operations.{Stamped, id_in, id_of, own, creates, deletes, is_root}
 use Rattle.rl_objmodel.specs.Held.{is_collected, Held}
 use Rattle.rl_objmodel.specs.Objects.{with_id, ids_in, standing, tombstone, kept_by, kept, all_kept}
-use Rattle.rl_objmodel.specs.Steps.{outcome, held_with, new_held, held_at, target, with_held, pool_if, pool_with, pool_after_op}
-use Rattle.rl_objmodel.specs.Following.{Follows, op_with, OneMore}
+use Rattle.rl_objmodel.specs.Steps.{outcome, held_with, new_held, held_at, target, with_held, pool_if, pool_with}
+use Rattle.rl_objmodel.specs.Following.{OneMore}
 use Rattle.rl_objmodel.proofs.PlacesHeld.{texts_same, texts_itself, equal_same}
-use Rattle.rl_objmodel.proofs.Entering.{put_key, put, KeysRise, rise_with, Differ, OfIt, TiedIn, entered}
-use Rattle.rl_objmodel.proofs.FollowingObjects.{IsStep, one_with, target_of, object_step}
+use Rattle.rl_objmodel.proofs.Entering.{put_key, put, KeysRise, rise_with, TiedIn, entered}
+use Rattle.rl_objmodel.proofs.FollowingObjects.{one_with, target_of, object_step}
 
 -- IDS
 

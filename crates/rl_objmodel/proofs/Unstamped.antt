@@ -1,6 +1,6 @@
 -- What is held, with its moments forgotten: what operations do does not depend on them.
 use Rattle.std.proofs.Common.{◌≡◌, ℕ, Bool, true, false, cond, List, [], ◌∷◌, refl, ap, sym, ◌∙◌}
-use Rattle.std.specs.Prelude.{map, option_map, ◌&&◌, ◌||◌, not, is_none, is_some, unwrap_or, bytes_eq, Option, Some, None, ℤ, pos, ◌+ℤ◌}
+use Rattle.std.specs.Prelude.{map, option_map, ◌&&◌, ◌||◌, not, is_none, is_some, unwrap_or, bytes_eq, Option, Some, None, ℤ, ◌+ℤ◌}
 use Rattle.std.specs.declared.cmp.Ordering.{Ordering}
 use Rattle.std.specs.declared.cmp.Ordering.TheVariants.{Less, Equal, Greater}
 use Rattle.std.specs.Ordering.{nat_cmp, match_ordering, is_eq}
@@ -24,7 +24,7 @@ use Rattle.rl_objmodel.specs.Operations.{id_in, is_create, is_delete}
 use Rattle.rl_objmodel.specs.Held.{Written, Value, Removed, Write, value_written, removal, value_in, Cells, shown_cell, HeldBody, Sum, Keys, Held, empty_body, shown_body, shown}
 use Rattle.rl_objmodel.specs.Objects.{greater}
 use Rattle.rl_objmodel.specs.Places.{at_text, with_at}
-use Rattle.rl_objmodel.specs.Steps.{passes, with_site, added, with_write, with_writes, entry_writes, on_cells, on_sum, body_passes_range, is_misplaced, outcome, emptied, changed, body_after, created_after, deleted_after, held_by, held_with, new_held, held_at, target, with_held, pool_outcome_by, pool_if, pool_with, pool_after_op, states}
+use Rattle.rl_objmodel.specs.Steps.{passes, with_site, added, with_write, with_writes, entry_writes, on_cells, on_sum, body_passes_range, is_misplaced, outcome, emptied, changed, body_after, created_after, deleted_after, held_with, new_held, held_at, target, with_held, pool_outcome_by, pool_if, pool_with, pool_after_op, states}
 
 -- FORGOTTEN
 
