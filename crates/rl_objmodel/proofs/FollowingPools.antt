@@ -115,7 +115,7 @@ in_with : (id : ObjectId) (ids : List ObjectId) → IsIdInRange id → AllIn ids
 in_with id [] h all = (h, tt)
 in_with id (other ∷ ids) h all = in_with_at id other ids (id_cmp id other) h all (in_with id ids h all.1)
 
-ids_fit : (latest : List Stamped) → AllByRecursion (λ (one : Stamped). IsIdInRange (id_of one)) latest → AllIn (ids_in latest)
+pub ids_fit : (latest : List Stamped) → AllByRecursion (λ (one : Stamped). IsIdInRange (id_of one)) latest → AllIn (ids_in latest)
 ids_fit [] h = (tt, tt)
 ids_fit (x ∷ latest) h = in_with (id_of x) (ids_in latest) h.0 (ids_fit latest h.1)
 
@@ -236,7 +236,7 @@ there_kept : (ticked : ℕ) (id : ObjectId) (latest : List Stamped) → Covered 
 there_kept ticked id latest (inl h) = inl h
 there_kept ticked id latest (inr h) = inr (none_kept ticked id latest h.0 h.1)
 
-found_kept : (ticked : ℕ) (id : ObjectId) (latest : List Stamped) → IsIdInRange id → AllIn (ids_in latest) → held_at id (all_kept ticked latest) ≡ kept ticked latest id
+pub found_kept : (ticked : ℕ) (id : ObjectId) (latest : List Stamped) → IsIdInRange id → AllIn (ids_in latest) → held_at id (all_kept ticked latest) ≡ kept ticked latest id
 found_kept ticked id latest fits all = looked id (kept ticked latest) (kept_named ticked latest) (ids_in latest) fits all (there_kept ticked id latest (covered id latest))
 
 -- ONE MORE

@@ -11,3 +11,4 @@ pub mod CollectingKept
 pub mod Entering
 pub mod FollowingObjects
 pub mod FollowingPools
+pub mod FollowingRules

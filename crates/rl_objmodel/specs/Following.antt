@@ -1,16 +1,20 @@
 -- What one more operation of a log makes of what is kept: the steps are what the definitions say.
-use Rattle.std.specs.Prelude.{⊤, ◌≡◌, ℕ, true, false, ◌||◌, List, [], ◌∷◌, Some, pos, ◌+ℤ◌}
+use Rattle.std.specs.Prelude.{⊤, ◌≡◌, ℕ, suc, true, false, ◌||◌, List, [], ◌∷◌, Option, Some, None, pos, ◌+ℤ◌}
 use Rattle.std.specs.List.{list_any, AllByRecursion}
 use Rattle.rl_ids.specs.declared.objects.ObjectId.{ObjectId}
+use Rattle.rl_ids.specs.declared.objects.MapValue.{MapValue}
+use Rattle.rl_ids.specs.declared.objects.MapValue.TheVariants as values
 use Rattle.rl_ids.specs.declared.serials.OpSerial.{OpSerial}
 use Rattle.rl_ids.specs.Objects.{kind_of, is_below, IsIdInRange}
 use Rattle.rl_types.specs.declared.objects.Op.{Op}
 use Rattle.rl_types.specs.declared.objects.Op.TheVariants.{MapCreate, MapSet, MapRemove, CounterCreate, CounterInc, Delete}
 use Rattle.rl_types.specs.declared.objects.ObjectOp.{ObjectOp}
-use Rattle.rl_objmodel.specs.Operations.{Stamped, stamped_at, id_in, id_of, own, creates, deletes, suits, is_root}
+use Rattle.rl_types.specs.declared.objects.ObjectState.{ObjectState}
+use Rattle.rl_objmodel.specs.Operations.{Stamped, stamped_at, id_in, id_of, own, creates, deletes, values_of, suits, is_root}
 use Rattle.rl_objmodel.specs.Held.{is_collected}
-use Rattle.rl_objmodel.specs.Objects.{sum_of, serials, all_kept}
-use Rattle.rl_objmodel.specs.Steps.{is_past_range, pool_after_op}
+use Rattle.rl_objmodel.specs.Objects.{sum_of, serials, all_kept, kept_object, kept_objects}
+use Rattle.rl_objmodel.specs.Rules.{Setting, or_next, length_rule, target_rule, values_rule, range_rule, op_rule, serial_at, entering, ops_rule}
+use Rattle.rl_objmodel.specs.Steps.{is_past_range, pool_after_op, pool_ops_rule}
 
 -- the object was not named before, and is not the root
 pub record Begins (id : ObjectId) (before : List Stamped) : Type 0 where
@@ -52,3 +56,32 @@ abbrev pub OneMore : Type 0
 OneMore = (ticked : ℕ) (latest : List Stamped) (serial : OpSerial) (op : Op) (stamp : ℕ) → Follows ticked serial op stamp (own (id_in op) latest)
     → AllByRecursion (λ (one : Stamped). IsIdInRange (id_of one)) latest → IsIdInRange (id_in op)
     → all_kept ticked (stamped_at stamp (op_with serial op) ∷ latest) ≡ pool_after_op stamp (op_with serial op) (all_kept ticked latest)
+
+-- RULES
+
+-- the rules before the last, which looks at all objects
+abbrev pub rules_before : ℕ → (ObjectId → Option ObjectState) → Op → Option ℕ
+rules_before now found op =
+    or_next (length_rule op) (or_next (target_rule now found op) (or_next (values_rule found (values_of op)) (range_rule found op)))
+
+-- each operation that keeps these rules may follow what is there, as long as all rules were kept
+abbrev pub MayFollow : Setting → ℕ → ℕ → List Stamped → List ObjectOp → Type 0
+MayFollow setting place index latest [] = ⊤
+MayFollow setting place index latest (op ∷ ops) =
+    (rules_before setting.now (kept_object setting.ticked latest) op.op ≡ None → Follows setting.ticked (serial_at setting.site place index) op.op setting.now (own (id_in op.op) latest))
+    × (op_rule setting.now (kept_object setting.ticked latest) (kept_objects setting.ticked (entering setting place index op ∷ latest)) op.op ≡ None → MayFollow setting place (suc index) (entering setting place index op ∷ latest) ops)
+
+abbrev pub IsValueInRange : MapValue → Type 0
+IsValueInRange (values.Ref id) = IsIdInRange id
+IsValueInRange _ = ⊤
+
+-- the ids that an operation names fit, those in its values among them
+pub record IsOpInRange (op : ObjectOp) : Type 0 where
+  pub target : IsIdInRange (id_in op.op)
+  pub refs : AllByRecursion IsValueInRange (values_of op.op)
+
+-- operations that may follow are judged alike by the log and by what is kept of it
+abbrev pub RulesAgree : Type 0
+RulesAgree = (setting : Setting) (place index : ℕ) (latest : List Stamped) (ops : List ObjectOp) → MayFollow setting place index latest ops
+    → AllByRecursion (λ (one : Stamped). IsIdInRange (id_of one)) latest → AllByRecursion IsOpInRange ops
+    → ops_rule setting place index latest ops ≡ pool_ops_rule setting place index (all_kept setting.ticked latest) ops

@@ -2,7 +2,7 @@
 ghost use Rattle.rl_objmodel.specs.Agreeing.{PoolsAgree};
 ghost use Rattle.rl_objmodel.specs.Collecting.{LastTickCounts, TicksCollect};
 ghost use Rattle.rl_objmodel.specs.Commuting.{EitherOrder};
-ghost use Rattle.rl_objmodel.specs.Following.{OneMore};
+ghost use Rattle.rl_objmodel.specs.Following.{OneMore, RulesAgree};
 ghost use Rattle.rl_objmodel.specs.Examples.{CountersCount, CellsAreGreatest, LengthsAreBounded, TargetsAreJudged, ReferencesAreJudged, NumbersAreBounded, PoolsAreBounded, TombstonesAreCollected, LiveObjectsRead, StepsAreDefined, StepsAreTaken};
 
 /// What counters have: the count of their create, and the amounts of their increments.
@@ -101,4 +101,10 @@ pub fn ticks_collect()
 #[tactic(auto, using(crate::proofs::FollowingPools::one_more))]
 pub fn one_more()
     ensures { OneMore }
+{}
+
+/// Operations that may follow are judged alike by the log and by what is kept of it.
+#[tactic(auto, using(crate::proofs::FollowingRules::rules_agree))]
+pub fn rules_agree()
+    ensures { RulesAgree }
 {}
