@@ -15,11 +15,10 @@ use Rattle.rl_types.specs.declared.objects.ObjectState.{ObjectState}
 use Rattle.rl_objmodel.specs.Operations.{Stamped, id_in, id_of, own, values_of}
 use Rattle.rl_objmodel.specs.Held.{Held, shown}
 use Rattle.rl_objmodel.specs.Objects.{kept_object, kept_objects, all_kept}
-use Rattle.rl_objmodel.specs.Rules.{Setting, or_next, fails_if, length_rule, create_rule, change_rule, delete_rule, target_rule, missing_rule, value_rule, values_rule, is_wide, sum_in, range_rule, pool_rule, op_rule, serial_at, entering, ops_rule}
+use Rattle.rl_objmodel.specs.Rules.{Setting, or_next, fails_if, length_rule, create_rule, change_rule, delete_rule, target_rule, missing_rule, value_rule, values_rule, is_wide, sum_in, range_rule, pool_rule, op_rule, serial_at, entering}
 use Rattle.rl_objmodel.specs.Steps.{state_at, states, pool_after_op, numbered, pool_ops_rule}
-use Rattle.rl_objmodel.specs.Following.{Follows, op_with, rules_before, MayFollow, IsValueInRange, IsOpInRange, RulesAgree}
+use Rattle.rl_objmodel.specs.Following.{Follows, rules_before, IsValueInRange, IsOpInRange, RulesAgree}
 use Rattle.rl_objmodel.proofs.FollowingPools.{ids_fit, found_kept, one_more}
-
 
 first_next : (a b c : Option ℕ) → or_next (or_next a b) c ≡ or_next a (or_next b c)
 first_next (Some code) b c = refl
