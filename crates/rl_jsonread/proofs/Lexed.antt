@@ -1,0 +1,92 @@
+-- The lexemes of plain strings, keys and whole numbers.
+use Rattle.std.proofs.Common.{◌≡◌, ℕ, suc, ◌+◌, ◌-◌, ◌^◌, ◌<◌, ◌≤◌, Bool, true, false, cond, nat_lt, ◌||◌, ◌==◌, List, [], ◌∷◌, ◌++◌, length, take, drop, Option, Some, None, decimal, refl, sym, ap, ap₂, ◌∙◌, arith, append_assoc, option_map}
+use Rattle.std.proofs.lemmas.Bool.{or_parts, not-true}
+use Rattle.std.proofs.lemmas.List.{append-nil, drop-drop, take-append-drop}
+use Rattle.std.specs.List.{prefix_len}
+use Rattle.json.specs.Token.{number, string}
+use Rattle.json.specs.Text.{content, plain, after_backslash, prepend}
+use Rattle.json.specs.Word.{is_operator, is_space}
+use Rattle.json.specs.Lex.{Lexeme, Mode, lex, lex_byte, between, in_string, operator, space, other, token, colon, string_token}
+use Rattle.json.specs.Run.{is_plain}
+use Rattle.json.proofs.Printed.Decimals.{IsNumber-decimal}
+use Rattle.json.proofs.Printed.Numbers.{lex-number}
+use Rattle.rl_jsonread.specs.Places.{IsByteAt, EndsAt}
+
+-- ---- plain bytes inside a string
+
+stays_inside : (o s : Bool) (x : ℕ) (r : List ℕ) (k : Mode → List Lexeme) → lex_byte in_string (cond o operator (cond s space other)) x r k ≡ k in_string
+stays_inside true s x r k = refl
+stays_inside false true x r k = refl
+stays_inside false false x r k = refl
+
+passed : (x : ℕ) (xs : List ℕ) → is_plain x ≡ true → lex in_string (x ∷ xs) ≡ lex in_string xs
+unfolding lex
+passed x xs h =
+    let none = or_parts ((x == 34) || (x == 92)) _ (not-true _ h) in
+    let tests = or_parts (x == 34) _ none.0 in
+    rw (tests.0, tests.1) (stays_inside (is_operator x) (is_space x) x xs (λ m. lex m xs))
+
+run_byte : (p : Bool) (x n : ℕ) (xs : List ℕ) → p ≡ is_plain x → lex in_string xs ≡ lex in_string (drop n xs) → lex in_string (x ∷ xs) ≡ lex in_string (drop (cond p (1 + n) 0) (x ∷ xs))
+run_byte false x n xs e ih = refl
+run_byte true x n xs e ih =
+    let next : suc n ≡ 1 + n = omega arith in
+    passed x xs (sym e) ∙ ih ∙ ap (λ k. lex in_string (drop k (x ∷ xs))) next
+
+run : (xs : List ℕ) → lex in_string xs ≡ lex in_string (drop (prefix_len is_plain xs) xs)
+run [] = refl
+run (x ∷ xs) = run_byte (is_plain x) x (prefix_len is_plain xs) xs refl (run xs)
+
+prepend-prepend : (a b : List ℕ) (r : Option (List ℕ)) → prepend a (prepend b r) ≡ prepend (a ++ b) r
+prepend-prepend a b None = refl
+prepend-prepend a b (Some s) = ap Some (sym (append_assoc a b s))
+
+prepend-nil : (r : Option (List ℕ)) → prepend [] r ≡ r
+prepend-nil None = refl
+prepend-nil (Some s) = refl
+
+content_byte : (p : Bool) (x n : ℕ) (xs : List ℕ) → p ≡ is_plain x → content plain xs ≡ prepend (take n xs) (content plain (drop n xs))
+    → content plain (x ∷ xs) ≡ prepend (take (cond p (1 + n) 0) (x ∷ xs)) (content plain (drop (cond p (1 + n) 0) (x ∷ xs)))
+unfolding content
+content_byte false x n xs e ih = sym (prepend-nil _)
+content_byte true x n xs e ih =
+    let next : suc n ≡ 1 + n = omega arith in
+    let none = or_parts ((x == 34) || (x == 92)) _ (not-true _ (sym e)) in
+    let tests = or_parts (x == 34) _ none.0 in
+    (λ i. cond (tests.0 i) (Some []) (cond (tests.1 i) (content after_backslash xs) (cond (none.1 i) None (prepend (x ∷ []) (ih i)))))
+    ∙ prepend-prepend (x ∷ []) (take n xs) _ ∙ ap (λ k. prepend (take k (x ∷ xs)) (content plain (drop k (x ∷ xs)))) next
+
+content_run : (xs : List ℕ) → content plain xs ≡ prepend (take (prefix_len is_plain xs) xs) (content plain (drop (prefix_len is_plain xs) xs))
+content_run [] = sym (prepend-nil _)
+content_run (x ∷ xs) = content_byte (is_plain x) x (prefix_len is_plain xs) xs refl (content_run xs)
+
+-- ---- from the first byte of a string up to its closing quote
+
+module _ (d : List ℕ) (i stop : ℕ) (is : stop ≡ i + prefix_len is_plain (drop i d)) (q : IsByteAt d stop 34) where
+  pub content_found : content plain (drop i d) ≡ Some (take (stop - i) (drop i d))
+  unfolding content
+  content_found =
+      let n : prefix_len is_plain (drop i d) ≡ stop - i = omega arith in
+      content_run (drop i d) ∙ ap (λ l. prepend (take (prefix_len is_plain (drop i d)) (drop i d)) (content plain l)) (drop-drop _ i d ∙ ap (λ k. drop k d) (sym is))
+      ∙ ap (λ k. prepend (take k (drop i d)) (content plain (drop stop d))) n ∙ ap (λ t. prepend (take (stop - i) (drop i d)) (content plain t)) q.rest ∙ ap Some (append-nil _)
+
+  pub rest_found : lex in_string (drop i d) ≡ lex between (drop (stop + 1) d)
+  unfolding lex
+  rest_found = run (drop i d) ∙ ap (lex in_string) (drop-drop _ i d ∙ ap (λ k. drop k d) (sym is)) ∙ ap (lex in_string) q.rest
+
+pub string_lexed : (d : List ℕ) (from to : ℕ) (s : List ℕ) → IsByteAt d from 34 → content plain (drop (from + 1) d) ≡ Some s → lex in_string (drop (from + 1) d) ≡ lex between (drop to d)
+    → lex between (drop from d) ≡ token (string s) ∷ lex between (drop to d)
+unfolding lex
+string_lexed d from to s q c r = ap (lex between) q.rest ∙ ap₂ (λ o l. token (string_token o) ∷ l) c r
+
+pub key_lexed : (d : List ℕ) (from at : ℕ) (s : List ℕ) → lex between (drop from d) ≡ token (string s) ∷ lex between (drop at d) → IsByteAt d at 58
+    → lex between (drop from d) ≡ token (string s) ∷ colon ∷ lex between (drop (at + 1) d)
+unfolding lex
+key_lexed d from at s e h = e ∙ ap (λ t. token (string s) ∷ lex between t) h.rest
+
+pub number_lexed : (d : List ℕ) (from end n : ℕ) → n < 2 ^ 64 → from ≤ end → take (end - from) (drop from d) ≡ decimal n → EndsAt d end
+    → lex between (drop from d) ≡ token (number (decimal n)) ∷ lex between (drop end d)
+number_lexed d from end n fits le same ends =
+    let there : from + (end - from) ≡ end = omega arith in
+    let cut : drop from d ≡ decimal n ++ drop end d =
+    sym (take-append-drop (end - from) (drop from d)) ∙ ap₂ (λ a b. a ++ b) same (drop-drop (end - from) from d ∙ ap (λ k. drop k d) there) in
+    ap (lex between) cut ∙ lex-number (decimal n) (drop end d) (IsNumber-decimal n fits) ends.word

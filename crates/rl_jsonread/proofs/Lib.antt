@@ -1,0 +1,5 @@
+pub mod Bytes
+pub mod Lexed
+pub mod Reading
+pub mod Begins
+pub mod Nested
