@@ -6,7 +6,7 @@ use Rattle.json.specs.Token.{Token}
 use Rattle.json.specs.Lex.{Lexeme, lex, between, token, colon, Place, fresh, after_value, after_comma, after_key, may_begin, begins_colon, punctuate}
 use Rattle.json.specs.Json.{parse_map, after_end_array, read_key, value, items, members}
 use Rattle.json.proofs.Grammar.{value_is, value-begin_array, value-begin_object, left, skip_value-shorter}
-use Rattle.serde_json.specs.Data.{Data, string, number, unsigned, array, object, Items, Members, no_members}
+use Rattle.serde_json.specs.Data.{Data, null, boolean, string, number, unsigned, array, object, Items, Members, no_members}
 use Rattle.serde_json.specs.Read.{of_json, of_items, of_members, converted}
 use Rattle.serde_json.proofs.Numbers.{number_of-decimal}
 use Rattle.rl_jsonread.proofs.Reading.{converted_some, converted-array, converted-object}
@@ -27,6 +27,20 @@ number_begins fresh s ls m = refl
 number_begins after_value s ls m = absurd (false≢true m)
 number_begins after_comma s ls m = refl
 number_begins after_key s ls m = absurd (false≢true m)
+
+boolean_begins : (p : Place) (b : Bool) (ls : List Lexeme) → may_begin p ≡ true → punctuate p (token (tokens.boolean b) ∷ ls) ≡ tokens.boolean b ∷ punctuate after_value ls
+unfolding punctuate
+boolean_begins fresh b ls m = refl
+boolean_begins after_value b ls m = absurd (false≢true m)
+boolean_begins after_comma b ls m = refl
+boolean_begins after_key b ls m = absurd (false≢true m)
+
+null_begins : (p : Place) (ls : List Lexeme) → may_begin p ≡ true → punctuate p (token tokens.null ∷ ls) ≡ tokens.null ∷ punctuate after_value ls
+unfolding punctuate
+null_begins fresh ls m = refl
+null_begins after_value ls m = absurd (false≢true m)
+null_begins after_comma ls m = refl
+null_begins after_key ls m = absurd (false≢true m)
 
 array_begins : (p : Place) (ls : List Lexeme) → may_begin p ≡ true → punctuate p (token tokens.begin_array ∷ ls) ≡ tokens.begin_array ∷ punctuate fresh ls
 unfolding punctuate
@@ -61,6 +75,14 @@ module _ (depth : ℕ) (d : List ℕ) (from to : ℕ) where
       ap (λ ts. converted of_json (value depth ts)) (ap (punctuate p) lexed ∙ number_begins p (decimal n) _ m)
       ∙ ap (converted of_json) (value_is depth (tokens.number (decimal n) ∷ tokens_at after_value d to))
       ∙ ap (λ o. option_map {U = Data × List Token} (λ b. (b, tokens_at after_value d to)) (option_map number o)) (number_of-decimal n fits)
+
+  pub boolean_is : (b : Bool) → lex between (drop from d) ≡ token (tokens.boolean b) ∷ lex between (drop to d) → IsValueAt depth d from (boolean b) to
+  boolean_is b lexed = λ p m.
+      ap (λ ts. converted of_json (value depth ts)) (ap (punctuate p) lexed ∙ boolean_begins p b _ m) ∙ ap (converted of_json) (value_is depth (tokens.boolean b ∷ tokens_at after_value d to))
+
+  pub null_is : lex between (drop from d) ≡ token tokens.null ∷ lex between (drop to d) → IsValueAt depth d from null to
+  null_is lexed = λ p m.
+      ap (λ ts. converted of_json (value depth ts)) (ap (punctuate p) lexed ∙ null_begins p _ m) ∙ ap (converted of_json) (value_is depth (tokens.null ∷ tokens_at after_value d to))
 
   pub array_is : (ds : Items) → IsByteAt d from 91 → 0 < depth → AreItemsAt (depth - 1) d (from + 1) ds to → IsValueAt depth d from (array ds) to
   unfolding lex

@@ -3,7 +3,7 @@ ghost use Rattle.std.specs.Prelude.{◌≡◌, ◌∷◌, drop, IfSome, decimal}
 ghost use Rattle.json.specs.Token.{number};
 ghost use Rattle.json.specs.Lex.{lex, between, token};
 
-use crate::runs::ends_at;
+use crate::runs::word_at;
 use itoa::Buffer;
 
 // The number that the digits from a place on spell. Nothing is said of it: its own digits are compared with the text.
@@ -26,11 +26,6 @@ pub(crate) fn number_at(text: &str, from: usize) -> Option<(u64, usize)>
 {
     let number = guess_at(text.as_bytes(), from);
     let mut buffer = Buffer::new();
-    let digits = buffer.format(number);
-    let end = from.checked_add(digits.len())?;
-    let found = text.get(from..end)?;
-    if found != digits || !ends_at(text, end) {
-        return None;
-    }
+    let end = word_at(text, from, buffer.format(number))?;
     Some((number, end))
 }

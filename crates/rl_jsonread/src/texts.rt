@@ -11,8 +11,8 @@ use std::alloc::Global;
 // How deep arrays and objects may nest, as in `serde_json`.
 const MAX_DEPTH: usize = 127;
 
-// The value that a text is, where the text is plain.
-fn plain_value(alloc: Global, text: &str) -> Option<Value>
+/// The value that a text is, where the text is plain and memory is there.
+pub(crate) fn plain_value(alloc: Global, text: &str) -> Option<Value>
     ensures { IfSome result (λ v. read text.now ≡ Some (view v)) }
 {
     let (value, end) = value_at(alloc, text, 0, MAX_DEPTH)?;

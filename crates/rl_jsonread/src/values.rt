@@ -5,7 +5,7 @@ ghost use Rattle.serde_json.specs.View.{view, items_view, members_view};
 ghost use Rattle.rl_jsonread.specs.Places.{IsByteAt, IsValueAt, AreItemsAt, AreMembersAt};
 
 use crate::numbers::number_at;
-use crate::runs::{ends_at, is_at};
+use crate::runs::{byte_at, ends_at, is_at, word_at};
 use crate::strings::{key_at, string_at};
 use serde_json::{Map, Value};
 use std::alloc::Global;
@@ -28,10 +28,38 @@ fn whole_at(text: &str, from: usize, depth: usize) -> Option<(Value, usize)>
     Some((Value::from(number), end))
 }
 
+// A number, or one of the three names.
+fn word_value_at(text: &str, from: usize, depth: usize) -> Option<(Value, usize)>
+    ensures { IfSome result (λ r. IsValueAt depth text.now from (view r.0) r.1) }
+{
+    match byte_at(text, from) {
+        Some(b'0'..=b'9') => whole_at(text, from, depth),
+        _ => named_at(text, from, depth),
+    }
+}
+
+fn named_at(text: &str, from: usize, depth: usize) -> Option<(Value, usize)>
+    ensures { IfSome result (λ r. IsValueAt depth text.now from (view r.0) r.1) }
+{
+    if let Some(end) = word_at(text, from, "true") {
+        return Some((Value::Bool(true), end));
+    }
+    if let Some(end) = word_at(text, from, "false") {
+        return Some((Value::Bool(false), end));
+    }
+    let end = word_at(text, from, "null")?;
+    Some((Value::Null, end))
+}
+
 /// The value that stands at a place, with arrays and objects nested no deeper than `depth`, and the place after it.
 /// `None` where none stands there, or it isn't plain, or memory ends.
 #[cycle(value)]
-pub(crate) fn value_at(alloc: Global, text: &str, from: usize, depth: usize) -> Option<(Value, usize)>
+pub(crate) fn value_at(
+    alloc: Global,
+    text: &str,
+    from: usize,
+    depth: usize,
+) -> Option<(Value, usize)>
     ensures { IfSome result (λ r. IsValueAt depth text.now from (view r.0) r.1) }
 {
     if is_at(text, from, b'"') {
@@ -43,7 +71,7 @@ pub(crate) fn value_at(alloc: Global, text: &str, from: usize, depth: usize) -> 
     if is_at(text, from, b'[') {
         return array_at(alloc, text, from, depth);
     }
-    whole_at(text, from, depth)
+    word_value_at(text, from, depth)
 }
 
 #[cycle(value)]

@@ -133,11 +133,7 @@ fn put_back(out: &mut Writer, head: &Head) -> Result<(), NoMemory>
 }
 
 /// The text of a MESSAGE frame.
-pub fn message_bytes(
-    alloc: Global,
-    head: &Head,
-    items: &List<Item>,
-) -> Result<Vec<u8>, NoMemory>
+pub fn message_bytes(alloc: Global, head: &Head, items: &List<Item>) -> Result<Vec<u8>, NoMemory>
     ensures text { IfOk result (λ b. b.items ≡ frame_text (frames.Message head.now items.now)) }
     ensures utf8 { IfOk result (λ b. IsUtf8 b.items) }
 {
