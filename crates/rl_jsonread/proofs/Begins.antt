@@ -1,13 +1,13 @@
 -- What a value begins with.
-use Rattle.std.proofs.Common.{◌≡◌, ℕ, ◌-◌, ◌+◌, ◌^◌, ◌<◌, Bool, true, false, List, [], ◌∷◌, length, drop, Option, Some, None, option_map, decimal, refl, sym, ap, ◌∙◌}
+use Rattle.std.proofs.Common.{◌≡◌, ℕ, ◌-◌, ◌+◌, ◌^◌, ◌<◌, Bool, true, false, List, [], ◌∷◌, length, drop, Option, Some, None, option_map, decimal, refl, ap, ◌∙◌}
 use Rattle.std.proofs.lemmas.Bool.{false≢true}
 use Rattle.json.specs.Token as tokens
 use Rattle.json.specs.Token.{Token}
 use Rattle.json.specs.Lex.{Lexeme, lex, between, token, colon, Place, fresh, after_value, after_comma, after_key, may_begin, begins_colon, punctuate}
 use Rattle.json.specs.Json.{parse_map, after_end_array, read_key, value, items, members}
 use Rattle.json.proofs.Grammar.{value_is, value-begin_array, value-begin_object, left, skip_value-shorter}
-use Rattle.serde_json.specs.Data.{Data, null, boolean, string, number, unsigned, array, object, Items, Members, no_members}
-use Rattle.serde_json.specs.Read.{of_json, of_items, of_members, converted}
+use Rattle.serde_json.specs.Data.{Data, null, boolean, string, number, unsigned, array, object, Items, Members}
+use Rattle.serde_json.specs.Read.{of_json, converted}
 use Rattle.serde_json.proofs.Numbers.{number_of-decimal}
 use Rattle.rl_jsonread.proofs.Reading.{converted_some, converted-array, converted-object}
 use Rattle.rl_jsonread.specs.Places.{IsByteAt, EndsAt, tokens_at, IsValueAt, AreItemsAt, AreMembersAt}

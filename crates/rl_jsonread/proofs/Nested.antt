@@ -2,10 +2,10 @@
 use Rattle.std.proofs.Common.{◌≡◌, ℕ, ◌-◌, ◌+◌, ◌<◌, ◌≤◌, true, List, [], ◌∷◌, ◌++◌, length, drop, Option, Some, refl, sym, ap, ◌∙◌, subst, arith, String, Global, string_bytes, string_cmp}
 use Rattle.json.specs.Token.{Token}
 use Rattle.json.specs.Lex.{lex, between, token, colon, Place, fresh, after_value, after_comma, may_begin, punctuate}
-use Rattle.json.specs.Json.{Json, parse_map, after_end_array, read_key, value, items, members}
+use Rattle.json.specs.Json.{parse_map, after_end_array, read_key, value, items, members}
 use Rattle.json.specs.Token as tokens
 use Rattle.json.proofs.Grammar.{read_key-shorter}
-use Rattle.serde_json.specs.Data.{Data, Items, no_items, item, Members, no_members, put}
+use Rattle.serde_json.specs.Data.{Data, Items, no_items, Members, no_members, put}
 use Rattle.serde_json.specs.Read.{of_json, of_items, of_members, converted}
 use Rattle.serde_json.specs.View.{view, items_view, members_view}
 use Rattle.serde_json.specs.declared.value.Value.{Value}

@@ -1,11 +1,11 @@
 -- The grammar's loops, a turn at a time, under the conversion to data, as `serde_json` shows them for its own reader.
-use Rattle.std.proofs.Common.{◌≡◌, ℕ, zero, suc, ◌-◌, ◌<◌, ◌≤◌, List, [], ◌∷◌, ◌++◌, length, Option, Some, None, option_map, option_and_then, refl, ap, ◌∙◌, arith, drop}
+use Rattle.std.proofs.Common.{◌≡◌, ℕ, ◌-◌, ◌<◌, ◌≤◌, List, [], ◌∷◌, ◌++◌, length, Option, Some, None, option_map, option_and_then, refl, ap, ◌∙◌, arith, drop}
 use Rattle.json.specs.Token.{Token}
 use Rattle.std.proofs.lemmas.List.{drop_all}
 use Rattle.json.specs.Lex.{lex, between, fresh, after_value, punctuate}
 use Rattle.json.specs.Json as json
 use Rattle.json.specs.Json.{Parse, parse_map, after_end_array, read_key, items_step, items, members, if_last, value}
-use Rattle.json.proofs.Grammar.{items_end, items_more, members_end, members_no_key, members_more}
+use Rattle.json.proofs.Grammar.{items_end, items_more, members_end, members_more}
 use Rattle.serde_json.specs.Data.{Data, array, object, Items, no_items, item, Members, no_members, put}
 use Rattle.serde_json.specs.Read.{of_json, of_items, of_members, converted, max_depth, read}
 use Rattle.serde_json.specs.View.{view, items_view}

@@ -1,4 +1,4 @@
-use Rattle.std.proofs.Common.{◌≡◌, ◌<◌, ◌^◌, decimal, subst, rules}
+use Rattle.std.proofs.Common.{◌<◌, ◌^◌, subst, rules}
 use Rattle.rl_jsonread.specs.Places.{IsWordAt}
 use Rattle.rl_jsonread.proofs.Lexed.{number_lexed}
 use Rattle.rl_jsonread.proofs.numbers.number_at.Goals as goal

@@ -1,4 +1,4 @@
-use Rattle.std.proofs.Common.{◌≡◌, ◌≤◌, ◌-◌, take, drop, refl, sym, ◌∙◌, arith, rules}
+use Rattle.std.proofs.Common.{◌≡◌, ◌≤◌, refl, sym, ◌∙◌, arith, rules}
 use Rattle.rl_jsonread.proofs.Lexed.{word_found}
 use Rattle.rl_jsonread.proofs.runs.word_at.Goals as goal
 

@@ -1,4 +1,4 @@
-use Rattle.std.proofs.Common.{◌≡◌, length, arith, rules}
+use Rattle.std.proofs.Common.{◌≡◌, length, arith}
 use Rattle.serde_json.specs.View.{view}
 use Rattle.rl_jsonread.proofs.Reading.{text_read}
 use Rattle.rl_jsonread.proofs.texts.plain_value.Goals as goal

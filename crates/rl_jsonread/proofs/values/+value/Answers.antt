@@ -1,4 +1,4 @@
-use Rattle.std.proofs.Common.{◌≡◌, string_bytes, refl, sym, ap, subst, arith, rules}
+use Rattle.std.proofs.Common.{string_bytes, refl, sym, ap, subst, arith, rules}
 use Rattle.serde_json.specs.View.{view, items_view, members_view}
 use Rattle.serde_json.proofs.Views.{view-Array, view-Object}
 use Rattle.rl_jsonread.specs.Places.{IsByteAt, IsValueAt}
