@@ -1,5 +1,6 @@
 -- What a value begins with.
-use Rattle.std.proofs.Common.{◌≡◌, ℕ, ◌-◌, ◌+◌, ◌^◌, ◌<◌, Bool, true, false, List, [], ◌∷◌, length, drop, Option, Some, None, option_map, decimal, refl, ap, ◌∙◌}
+use Rattle.std.proofs.Common.{◌≡◌, ℕ, ℤ, pos, negsuc, int_lt, SFits, w64, arith, ◌-◌, ◌+◌, ◌^◌, ◌<◌, Bool, true, false, List, [], ◌∷◌, length, drop, Option, Some, None, option_map, decimal, refl, ap, ◌∙◌}
+use Rattle.std.specs.Fmt.{signed_decimal}
 use Rattle.std.proofs.lemmas.Bool.{false≢true}
 use Rattle.json.specs.Token as tokens
 use Rattle.json.specs.Token.{Token}
@@ -7,8 +8,9 @@ use Rattle.json.specs.Lex.{Lexeme, lex, between, token, colon, Place, fresh, aft
 use Rattle.json.specs.Json.{parse_map, after_end_array, read_key, value, items, members}
 use Rattle.json.proofs.Grammar.{value_is, value-begin_array, value-begin_object, left, skip_value-shorter}
 use Rattle.serde_json.specs.Data.{Data, null, boolean, string, number, unsigned, array, object, Items, Members}
-use Rattle.serde_json.specs.Read.{of_json, converted}
-use Rattle.serde_json.proofs.Numbers.{number_of-decimal}
+use Rattle.serde_json.specs.Find.{of_integer}
+use Rattle.serde_json.specs.Read.{number_of, of_json, converted}
+use Rattle.serde_json.proofs.Numbers.{number_of-decimal, number_of-negative}
 use Rattle.rl_jsonread.proofs.Reading.{converted_some, converted-array, converted-object}
 use Rattle.rl_jsonread.specs.Places.{IsByteAt, EndsAt, tokens_at, IsValueAt, AreItemsAt, AreMembersAt}
 
@@ -63,6 +65,10 @@ key_begins after_value s ls m = absurd (false≢true m)
 key_begins after_comma s ls m = refl
 key_begins after_key s ls m = absurd (false≢true m)
 
+below_zero : (z : ℤ) → int_lt z (pos 0) ≡ true → SFits w64 z → number_of (signed_decimal z) ≡ Some (of_integer z)
+below_zero (pos n) e fits = absurd (grind arith)
+below_zero (negsuc n) e fits = number_of-negative n (grind arith)
+
 -- ---- values
 
 module _ (depth : ℕ) (d : List ℕ) (from to : ℕ) where
@@ -75,6 +81,12 @@ module _ (depth : ℕ) (d : List ℕ) (from to : ℕ) where
       ap (λ ts. converted of_json (value depth ts)) (ap (punctuate p) lexed ∙ number_begins p (decimal n) _ m)
       ∙ ap (converted of_json) (value_is depth (tokens.number (decimal n) ∷ tokens_at after_value d to))
       ∙ ap (λ o. option_map {U = Data × List Token} (λ b. (b, tokens_at after_value d to)) (option_map number o)) (number_of-decimal n fits)
+
+  pub negative_is : (z : ℤ) → int_lt z (pos 0) ≡ true → SFits w64 z → lex between (drop from d) ≡ token (tokens.number (signed_decimal z)) ∷ lex between (drop to d) → IsValueAt depth d from (number (of_integer z)) to
+  negative_is z below fits lexed = λ p m.
+      ap (λ ts. converted of_json (value depth ts)) (ap (punctuate p) lexed ∙ number_begins p (signed_decimal z) _ m)
+      ∙ ap (converted of_json) (value_is depth (tokens.number (signed_decimal z) ∷ tokens_at after_value d to))
+      ∙ ap (λ o. option_map {U = Data × List Token} (λ b. (b, tokens_at after_value d to)) (option_map number o)) (below_zero z below fits)
 
   pub boolean_is : (b : Bool) → lex between (drop from d) ≡ token (tokens.boolean b) ∷ lex between (drop to d) → IsValueAt depth d from (boolean b) to
   boolean_is b lexed = λ p m.

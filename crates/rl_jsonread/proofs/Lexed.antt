@@ -1,5 +1,6 @@
 -- The lexemes of plain strings, keys and whole numbers.
-use Rattle.std.proofs.Common.{◌≡◌, ℕ, suc, ◌+◌, ◌-◌, ◌^◌, ◌<◌, ◌≤◌, Bool, true, false, cond, ◌||◌, ◌==◌, List, [], ◌∷◌, ◌++◌, length, take, drop, Option, Some, None, decimal, refl, sym, ap, ap₂, ◌∙◌, arith, append_assoc, option_and_then, ◌⊎◌, inl, inr}
+use Rattle.std.proofs.Common.{◌≡◌, ℕ, ℤ, SFits, w64, suc, ◌+◌, ◌-◌, ◌^◌, ◌<◌, ◌≤◌, Bool, true, false, cond, ◌||◌, ◌==◌, List, [], ◌∷◌, ◌++◌, length, take, drop, Option, Some, None, decimal, refl, sym, ap, ap₂, ◌∙◌, arith, append_assoc, option_and_then, ◌⊎◌, inl, inr}
+use Rattle.std.specs.Fmt.{signed_decimal}
 use Rattle.std.proofs.lemmas.Bool.{or_parts, not-true, cases_eq, ne_eqb}
 use Rattle.std.proofs.lemmas.List.{append-nil, drop-drop, take-append-drop}
 use Rattle.std.specs.List.{prefix_len}
@@ -9,7 +10,7 @@ use Rattle.json.specs.Word.{is_operator, is_space, word}
 use Rattle.json.specs.Ascii.{true_text, false_text, null_text}
 use Rattle.json.specs.Lex.{Lexeme, Mode, lex, lex_byte, between, in_string, in_escape, Class, class, quote, backslash, operator, space, other, token, colon, string_token}
 use Rattle.json.specs.Run.{is_plain}
-use Rattle.json.proofs.Printed.Decimals.{IsNumber-decimal}
+use Rattle.json.proofs.Printed.Decimals.{IsNumber-decimal, IsNumber-signed_decimal}
 use Rattle.json.proofs.Printed.Numbers.{lex-number, in_word-ended}
 use Rattle.rl_jsonread.specs.Places.{IsByteAt, EndsAt, IsWordAt, IsReadTo, Takes}
 
@@ -96,6 +97,9 @@ word_found d from end word le same ends =
 
 pub number_lexed : (d : List ℕ) (from end n : ℕ) → n < 2 ^ 64 → IsWordAt d from (decimal n) end → lex between (drop from d) ≡ token (number (decimal n)) ∷ lex between (drop end d)
 number_lexed d from end n fits w = ap (lex between) w.whole ∙ lex-number (decimal n) (drop end d) (IsNumber-decimal n fits) w.ends.word
+
+pub negative_lexed : (d : List ℕ) (from end : ℕ) (z : ℤ) → SFits w64 z → IsWordAt d from (signed_decimal z) end → lex between (drop from d) ≡ token (number (signed_decimal z)) ∷ lex between (drop end d)
+negative_lexed d from end z fits w = ap (lex between) w.whole ∙ lex-number (signed_decimal z) (drop end d) (IsNumber-signed_decimal z fits.sfits) w.ends.word
 
 pub true_lexed : (d : List ℕ) (from end : ℕ) → IsWordAt d from true_text end → lex between (drop from d) ≡ token (boolean true) ∷ lex between (drop end d)
 unfolding lex word

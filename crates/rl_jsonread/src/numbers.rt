@@ -1,4 +1,4 @@
-//! Whole numbers without a sign.
+//! Whole numbers.
 ghost use Rattle.std.specs.Prelude.{◌≡◌, ◌∷◌, drop, IfSome, decimal};
 ghost use Rattle.json.specs.Token.{number};
 ghost use Rattle.json.specs.Lex.{lex, between, token};
@@ -17,6 +17,15 @@ fn guess_at(bytes: &[u8], from: usize) -> u64 {
         number = number.wrapping_mul(10).wrapping_add(u64::from(byte - b'0'));
     }
     number
+}
+
+/// The number below 0 whose digits stand from a place on; 0 where they spell too large a one. Nothing is said of it
+/// either.
+pub(crate) fn negative_guess_at(bytes: &[u8], from: usize) -> i64 {
+    match i64::try_from(guess_at(bytes, from)) {
+        Ok(number) => 0i64.wrapping_sub(number),
+        Err(_) => 0,
+    }
 }
 
 /// The number that stands at a place before a comma or a closing bracket, and the place after it. `None` where none

@@ -4,9 +4,10 @@ ghost use Rattle.serde_json.specs.Data.{put};
 ghost use Rattle.serde_json.specs.View.{view, items_view, members_view};
 ghost use Rattle.rl_jsonread.specs.Places.{IsByteAt, IsValueAt, AreItemsAt, AreMembersAt};
 
-use crate::numbers::number_at;
+use crate::numbers::{negative_guess_at, number_at};
 use crate::runs::{byte_at, ends_at, is_at, word_at};
 use crate::strings::{key_at, string_at};
+use itoa::Buffer;
 use serde_json::{Map, Value};
 use std::alloc::Global;
 
@@ -28,10 +29,26 @@ fn whole_at(text: &str, from: usize, depth: usize) -> Option<(Value, usize)>
     Some((Value::from(number), end))
 }
 
+// A number below 0, which is told, where it stands at a place.
+fn negative_at(text: &str, from: usize, depth: usize, number: i64) -> Option<(Value, usize)>
+    ensures { IfSome result (λ r. IsValueAt depth text.now from (view r.0) r.1) }
+{
+    if number >= 0 {
+        return None;
+    }
+    let mut buffer = Buffer::new();
+    let end = word_at(text, from, buffer.format(number))?;
+    Some((Value::from(number), end))
+}
+
 // A number, or one of the three names.
 fn word_value_at(text: &str, from: usize, depth: usize) -> Option<(Value, usize)>
     ensures { IfSome result (λ r. IsValueAt depth text.now from (view r.0) r.1) }
 {
+    if is_at(text, from, b'-') {
+        let number = negative_guess_at(text.as_bytes(), from + 1);
+        return negative_at(text, from, depth, number);
+    }
     match byte_at(text, from) {
         Some(b'0'..=b'9') => whole_at(text, from, depth),
         _ => named_at(text, from, depth),
