@@ -238,14 +238,20 @@ fn number_from_0(pending: &mut VecDeque<Pending>)
 
 impl Copied for AckQueue {
     fn copy(&self, alloc: Global) -> Result<AckQueue, NoMemory> {
-        let mut pending = VecDeque::new(alloc);
-        pending.reserve(self.pending.len())?;
-        for one in &self.pending {
-            pending.push_back(one.copy(alloc)?)?;
-        }
+        let pending = copy_all(alloc, &self.pending)?;
         Ok(AckQueue {
             pending,
             next: self.next,
         })
     }
+}
+
+fn copy_all(alloc: Global, pending: &VecDeque<Pending>) -> Result<VecDeque<Pending>, NoMemory>
+    ensures { IfOk result (λ made. made.items ≡ pending.now.items) }
+{
+    let mut made = VecDeque::new(alloc);
+    for one in pending {
+        made.push_back(one.copy(alloc)?)?;
+    }
+    Ok(made)
 }
