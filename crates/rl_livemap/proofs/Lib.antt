@@ -1,0 +1,4 @@
+pub mod Stamped
+pub mod Written
+pub mod Dropped
+pub mod Merged

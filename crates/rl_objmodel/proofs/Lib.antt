@@ -1,0 +1,14 @@
+pub mod Worked
+pub mod PlacesHeld
+pub mod PlacesFound
+pub mod CommutingOps
+pub mod CollectingTwice
+pub mod AgreeingLists
+pub mod AgreeingPools
+pub mod Unstamped
+pub mod AgreeingStates
+pub mod CollectingKept
+pub mod Entering
+pub mod FollowingObjects
+pub mod FollowingPools
+pub mod FollowingRules

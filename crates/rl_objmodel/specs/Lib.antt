@@ -1,0 +1,11 @@
+pub mod Places
+pub mod Operations
+pub mod Held
+pub mod Objects
+pub mod Rules
+pub mod Steps
+pub mod Examples
+pub mod Commuting
+pub mod Collecting
+pub mod Agreeing
+pub mod Following
