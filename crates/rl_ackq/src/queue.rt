@@ -235,23 +235,3 @@ fn number_from_0(pending: &mut VecDeque<Pending>)
         pending[at].renumber(at as u64);
     }
 }
-
-impl Copied for AckQueue {
-    fn copy(&self, alloc: Global) -> Result<AckQueue, NoMemory> {
-        let pending = copy_all(alloc, &self.pending)?;
-        Ok(AckQueue {
-            pending,
-            next: self.next,
-        })
-    }
-}
-
-fn copy_all(alloc: Global, pending: &VecDeque<Pending>) -> Result<VecDeque<Pending>, NoMemory>
-    ensures { IfOk result (λ made. made.items ≡ pending.now.items) }
-{
-    let mut made = VecDeque::new(alloc);
-    for one in pending {
-        made.push_back(one.copy(alloc)?)?;
-    }
-    Ok(made)
-}
