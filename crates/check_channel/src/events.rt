@@ -17,7 +17,7 @@ fn conn(word: &str) -> Result<ConnNo> {
 }
 
 // A text as it stands; `*` and a number is so many letters; `+` and a text is that text with the number of the
-// turn behind it.
+// turn after it.
 fn text_of(alloc: Global, word: &str, turn: u64) -> Result<Text> {
     if let Some(count) = word.strip_prefix('*') {
         return Ok(Text::from_string("x".repeat(alloc, count.parse::<usize>()?)?));

@@ -67,7 +67,7 @@ abbrev pub RiseFrom : ℕ → List Pending → ℕ → Type 0
 RiseFrom low [] next = low ≤ next
 RiseFrom low (one ∷ rest) next = (low ≤ one.serial) × RiseFrom (one.serial + 1) rest next
 
--- each is a MESSAGE or PRESENCE that has its serial in its head
+-- each is a frame that the service acknowledges and has its serial in its head
 abbrev pub AreTold : List Pending → Type 0
 AreTold = AllByRecursion (λ (one : Pending). serial_in one.frame ≡ Some one.serial)
 

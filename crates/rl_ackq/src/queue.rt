@@ -74,9 +74,9 @@ impl AckQueue {
         self.pending.len() == MAX_PENDING || self.next == MAX_MESSAGE_SERIAL
     }
 
-    /// Takes a MESSAGE or PRESENCE frame behind the others, with the next serial, which goes into its head too,
-    /// and answers the serial (RTN7b). `Full` comes exactly where the queue is full, with the count of pending
-    /// frames; after it, as after want of memory, the queue is as before.
+    /// Takes a frame that the service acknowledges (MESSAGE, PRESENCE, OBJECT) after the others, with the next serial,
+    /// which goes into its head too, and answers the serial (RTN7b). `Full` comes exactly where the queue is full, with
+    /// the count of pending frames; after it, as after want of memory, the queue is as before.
     pub fn push(&mut self, frame: Frame) -> Result<u64, PushFault>
         requires { is_acknowledged frame ≡ true }
         ensures ok { IfOk result (λ serial. (serial ≡ self.old.next) × (queue.is_full self.old ≡ false)) }
@@ -136,7 +136,7 @@ impl AckQueue {
     }
 
     /// Takes back what was pushed since the next serial was this one: drops the pending frames from this serial
-    /// on, and it is the next one again. It takes no memory. (This project's own: what fails behind a push is as
+    /// on, and it is the next one again. It takes no memory. (This project's own: what fails after a push is as
     /// before.)
     pub fn take_back(&mut self, serial: u64)
         requires { serial ≤ self.old.next }

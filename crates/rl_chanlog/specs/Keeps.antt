@@ -3,7 +3,7 @@ use Rattle.std.specs.Prelude.{◌≡◌, ℕ, length}
 use Rattle.rl_model.specs.Parts.{Parts}
 use Rattle.rl_chanlog.specs.Window.{WindowView, KeepsWindow}
 use Rattle.rl_chanlog.specs.Ids.{IdsView, KeepsIds, CountDown}
-use Rattle.rl_chanlog.specs.Outcomes.{OutcomesView, KeepsOutcomes, IsSpareFor}
+use Rattle.rl_chanlog.specs.Outcomes.{OutcomesView, KeepsOutcomes, HasPlace}
 
 -- what a contract sees of a channel's log
 pub record ChanLogView : Type 0 where
@@ -24,4 +24,4 @@ pub record Keeps (view : ChanLogView) (parts : Parts) : Type 0 where
 
 -- the next outcome of this connection takes no memory
 abbrev pub IsReady : ℕ → ChanLogView → Type 0
-IsReady conn view = IsSpareFor conn view.outcomes
+IsReady conn view = HasPlace conn view.outcomes

@@ -3,6 +3,13 @@ use Rattle.std.specs.Prelude.{◌≡◌, ℕ, ◌+◌, ◌-◌, ◌^◌, ◌≤�
 use Rattle.rl_numbers.specs.declared.limits.TheConstants.{MAX_WINDOW_ENTRIES, MAX_WINDOW_WEIGHT}
 use Rattle.rl_types.specs.declared.messages.Entry.{Entry}
 use Rattle.rl_model.specs.Window.{entry_weight, is_young}
+use Rattle.std.specs.Global.{Global}
+use Rattle.std.specs.declared.collections.VecDeque.{VecDeque}
+use Rattle.std.specs.VecDeque.{deque_capacity, deque_len}
+
+-- so many more items take no memory
+abbrev pub spare : {T : Type 0} → VecDeque T Global → ℕ
+spare items = deque_capacity items - deque_len items
 
 -- what a contract sees of a window
 pub record WindowView : Type 0 where

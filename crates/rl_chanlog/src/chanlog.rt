@@ -1,4 +1,4 @@
-ghost use Rattle.std.specs.Prelude.{◌≡◌, ℕ, List, ◌+◌, ◌-◌, ◌^◌, ◌<◌, ◌≤◌, [], length, IfOk, OnOk, OnErr, IsOk};
+ghost use Rattle.std.specs.Prelude.{◌≡◌, ◌≢◌, ℕ, List, ◌+◌, ◌-◌, ◌^◌, ◌<◌, ◌≤◌, [], length, IfOk, OnOk, OnErr, IsOk};
 ghost use Rattle.rl_model.specs.Parts.{Parts, aged, parts_of, read_in, remembered_in, retained, with_entry, with_outcome, without_outcome};
 ghost use Rattle.rl_chanlog.specs.Keeps.{IsReady, Keeps};
 
@@ -59,7 +59,7 @@ impl ChanLog {
         self.ids.reserve(alloc)
     }
 
-    /// Puts an entry behind the others, with the id that its put gave, and lets the window move on: the earliest
+    /// Puts an entry after the others, with the id that its put gave, and lets the window move on: the earliest
     /// entries that do not fit any more are dropped. It takes no memory, and costs what it drops.
     pub fn add(&mut self, entry: Entry, id: Option<Text>)
         requires room { 0 < self.old.room }
@@ -75,11 +75,12 @@ impl ChanLog {
         self.window.add(entry);
     }
 
-    /// Takes the memory that the next `consume` of this connection wants: none where an outcome of it is kept.
-    /// After `NoMemory` the log stands for what it did.
+    /// Takes the memory that each later `consume` of this connection wants, until it is forgotten: none where an
+    /// outcome of it is kept. What else is ready stays so. After `NoMemory` the log stands for what it did.
     pub fn ready(&mut self, conn: ConnNo) -> Result<(), NoMemory>
         ensures same { (parts : Parts) → Keeps self.old parts → Keeps self.new parts }
         ensures ready { OnOk result (IsReady conn self.new) }
+        ensures others { (other : ℕ) → IsReady other self.old → IsReady other self.new }
         ensures kept { (self.new.newest ≡ self.old.newest) × (self.new.head ≡ self.old.head) × (self.new.room ≡ self.old.room) }
     {
         self.outcomes.ready(conn.0)
@@ -91,6 +92,7 @@ impl ChanLog {
         ensures ok { OnOk result ((parts : Parts) → Keeps self.old parts → Keeps self.new (with_outcome conn serial outcome parts)) }
         ensures err { OnErr result ((parts : Parts) → Keeps self.old parts → Keeps self.new parts) }
         ensures ready { IsReady conn self.old → IsOk result }
+        ensures others { (other : ℕ) → IsReady other self.old → IsReady other self.new }
         ensures kept { (self.new.newest ≡ self.old.newest) × (self.new.head ≡ self.old.head) × (self.new.room ≡ self.old.room) }
     {
         self.outcomes.put(conn.0, serial, outcome)
@@ -152,19 +154,22 @@ impl ChanLog {
         self.outcomes.get(conn.0)
     }
 
-    /// Forgets the outcome of a connection, which is gone for good (RTN15g). It does not scan.
+    /// Forgets the outcome of a connection, which is gone for good (this project's own). It does not scan. Other
+    /// connections stay ready.
     pub fn forget(&mut self, conn: ConnNo)
         ensures forgot { (parts : Parts) → Keeps self.old parts → Keeps self.new (without_outcome conn parts) }
+        ensures others { (other : ℕ) → conn ≢ other → IsReady other self.old → IsReady other self.new }
         ensures kept { (self.new.newest ≡ self.old.newest) × (self.new.head ≡ self.old.head) × (self.new.room ≡ self.old.room) }
     {
         self.outcomes.remove(conn.0);
     }
 
     /// Lets the window move past the entries that are older than 120,000 ms at this moment (this project's own; a
-    /// service keeps messages for two minutes, RTN15g). It takes no memory, and costs what it drops.
+    /// service keeps messages for two minutes). It takes no memory, and costs what it drops; room stays.
     pub fn age(&mut self, now: Moment)
         ensures aged { (parts : Parts) → Keeps self.old parts → Keeps self.new (aged now parts) }
-        ensures kept { (self.new.newest ≡ self.old.newest) × (self.new.head ≡ self.old.head) }
+        ensures ready { (conn : ℕ) → IsReady conn self.old → IsReady conn self.new }
+        ensures kept { (self.new.newest ≡ self.old.newest) × (self.new.head ≡ self.old.head) × (self.old.room ≤ self.new.room) }
     {
         self.window.age(now);
     }

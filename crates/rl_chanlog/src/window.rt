@@ -1,7 +1,7 @@
 // The end of the log that is retained.
 ghost use Rattle.std.specs.Prelude.{◌≡◌, ℕ, ◌+◌, ◌-◌, ◌^◌, ◌<◌, ◌≤◌, ◌++◌, [], ◌∷◌, length, take, drop, sum_by, IfOk, OnOk};
 ghost use Rattle.rl_model.specs.Window.{entry_weight, fits, fits_at};
-ghost use Rattle.rl_chanlog.specs.Window.{RiseTo, narrowed, young_from};
+ghost use Rattle.rl_chanlog.specs.Window.{RiseTo, narrowed, spare, young_from};
 
 use rl_ids::{Copied, List, Moment, NoMemory};
 use rl_numbers::limits::{MAX_ENTRY_AGE, MAX_WINDOW_ENTRIES, MAX_WINDOW_WEIGHT};
@@ -21,13 +21,11 @@ pub struct Window {
 }
 
 impl Model for Window {
-    ghost use Rattle.std.specs.Prelude.{◌-◌};
-    ghost use Rattle.std.specs.VecDeque.{deque_capacity, deque_len};
-    ghost use Rattle.rl_chanlog.specs.Window.{IsWindow, WindowView};
+    ghost use Rattle.rl_chanlog.specs.Window.{IsWindow, WindowView, spare};
 
     ghost Value = { WindowView };
 
-    ghost view = { λ w. record { entries = w.entries.items; head = w.head; newest = w.newest; spare = deque_capacity w.entries - deque_len w.entries } };
+    ghost view = { λ w. record { entries = w.entries.items; head = w.head; newest = w.newest; spare = spare w.entries } };
 
     ghost invariant = { λ w. IsWindow w.entries.items w.weight w.head w.newest };
 }
@@ -58,7 +56,7 @@ impl Window {
         Ok(())
     }
 
-    // Puts an entry behind the others, and drops the earliest ones that do not fit any more.
+    // Puts an entry after the others, and drops the earliest ones that do not fit any more.
     pub fn add(&mut self, entry: Entry)
         requires room { 0 < self.old.spare }
         requires place { entry.place ≡ self.old.head + 1 }
@@ -80,6 +78,7 @@ impl Window {
         ensures entries { self.new.entries ≡ narrowed (fits_at now) self.old.entries }
         ensures head { self.new.head ≡ self.old.head }
         ensures newest { self.new.newest ≡ self.old.newest }
+        ensures room { self.old.spare ≤ self.new.spare }
     {
         self.weight = drop_old(&mut self.entries, self.weight, now.0);
     }
@@ -144,6 +143,7 @@ fn drop_old(entries: &mut VecDeque<Entry>, weighs: u128, now: u64) -> u128
     requires weighs { weighs ≡ sum_by entry_weight entries.old.items }
     ensures entries { entries.new.items ≡ young_from now entries.old.items }
     ensures weighed { result ≡ sum_by entry_weight entries.new.items }
+    ensures room { spare entries.old ≤ spare entries.new }
 {
     let mut left = weighs;
     while let Some(earliest) = entries.front() {

@@ -40,7 +40,7 @@ pub struct ChannelSetup {
 pub struct Joined {
     /// The place that is told.
     pub place: Place,
-    /// Whether it is the place that was asked for (RTL12).
+    /// Whether it is the place that was asked for (RESUMED, TR3c).
     pub resumed: bool,
     /// Whether members may be there (HAS_PRESENCE, RTP1): unset exactly where the session begins at the head
     /// and no member stands.
@@ -274,7 +274,7 @@ fn marks_of(entry: &Entry) -> (ConnNo, Outcome, Moment)
 }
 
 impl Channel {
-    /// Where a session begins that asks with this serial, or with none (RTL4c1, RTL12): the place asked for where
+    /// Where a session begins that asks with this serial, or with none (RTL4c1; RESUMED, TR3c): the place asked for where
     /// the serial is of this run's epoch and its place is retained, else the head. It takes no memory, and
     /// changes nothing: the channel stands for the history with the join too.
     pub fn join(&self, asked: &Option<Given>) -> Joined
@@ -401,7 +401,8 @@ impl Channel {
         Ok(ObjectPage { states, last, head })
     }
 
-    /// Time passes: entries older than [`MAX_ENTRY_AGE`] are not retained any more (RTN15g). It takes no memory.
+    /// Time passes: entries older than [`MAX_ENTRY_AGE`] are not retained any more (this project's own). It takes no
+    /// memory.
     pub fn tick(&mut self, now: Moment)
         ensures stands { (past : List ChannelEvent) → StandsFor self.old past → StandsFor self.new (ChannelEvent.Tick now ∷ past) }
         ensures setup { self.new.setup ≡ self.old.setup }

@@ -18,8 +18,8 @@ use rl_types::{Body, Entry};
 use std::alloc::Global;
 
 impl Channel {
-    /// A connection is gone for good (RTN15g): its last outcome is forgotten, and its members leave, told by one
-    /// entry whose place is answered. Where it has none, or the log is full, none leaves and there is no entry.
+    /// A connection is gone for good (this project's own): its last outcome is forgotten, and its members leave, told
+    /// by one entry whose place is answered. Where it has none, or the log is full, none leaves and there is no entry.
     /// All memory is taken before the first change: after `NoMemory` the channel stands for what it stood for.
     pub fn gone(
         &mut self,

@@ -58,8 +58,9 @@ pub fn awaits_nothing_where_forgotten()
     ensures { AwaitsNothingWhereForgotten }
 {}
 
-/// Once the connection is suspended, closed or failed, no channel awaits an answer or holds a serial, but that an
-/// INITIALIZED one may hold one; and a link that goes takes each DETACH with it (RTL3).
+/// As the connection becomes suspended with its link gone, each channel forgets its serial, but that an INITIALIZED
+/// one may hold one; as it becomes closed or failed, each channel rests: it is INITIALIZED, DETACHED or FAILED. And a
+/// link that goes takes each DETACH with it (RTL3).
 #[tactic(auto, using(crate::proofs::Cases::given_up_with_the_connection))]
 pub fn given_up_with_the_connection()
     ensures { GivenUpWithTheConnection }

@@ -12,6 +12,6 @@ AreApart (late ∷ earlier) =
     AllByRecursion (λ (early : Added). (id : List ℕ) → late.id ≡ Some id → early.id ≡ Some id → early.place + MAX_REMEMBERED < late.place) earlier
     × AreApart earlier
 
--- two entries whose Puts gave their first message one id stand farther apart than ids are remembered (RSL1k2)
+-- two entries whose Puts gave their first message one id stand farther apart than ids are remembered (RSL1k)
 abbrev pub OnceById : List ℕ → List ChannelEvent → Type 0
 OnceById site past = AreApart (added (decisions site past))

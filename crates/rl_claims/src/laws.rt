@@ -20,9 +20,9 @@ pub fn sound_records()
     ensures { (script : List Line) → HasSoundRecords (final script) }
 {}
 
-/// A segment behind the first is Opened only where the channel was DETACHED, SUSPENDED or FAILED since the
+/// A segment after the first is Opened only where the channel was DETACHED, SUSPENDED or FAILED since the
 /// segment before it began: a client that got a segment attaches with the serial that it holds. For the lines
-/// that scripts have now the proof shows more: no segment behind the first is Opened at all.
+/// that scripts have now the proof shows more: no segment after the first is Opened at all.
 #[tactic(auto, using(crate::proofs::Opened::opens_again_only_after_leaving))]
 pub fn opens_again_only_after_leaving()
     ensures { (script : List Line) → OpensAgainOnlyAfterLeaving script }

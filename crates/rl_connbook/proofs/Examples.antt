@@ -9,6 +9,7 @@ replies_hold = record {
   came_back = refl;
   in_flight = refl;
   left_behind = refl;
+  closed = refl;
   range_begins = refl;
   range_ends = refl;
 }

@@ -36,6 +36,8 @@ pub record Replies : Type 0 where
   -- an outcome that an earlier generation's call left is known to the next one
   pub left_behind : replies (Open 7 0 ∷ Begin 1 1 0 ∷ Lost 1 1 0 ∷ Resume key 0 ∷ Begin 1 2 0 ∷ End 1 1 0 (Some (Taken 1)) ∷ Begin 1 2 0 ∷ End 1 1 5 (Some (Taken 2)) ∷ Begin 1 2 5 ∷ [])
       ≡ Opened 1 1 key ∷ Go ∷ Done ∷ Resumed 1 2 ∷ Go ∷ Superseded 2 ∷ Known (Taken 1) ∷ Superseded 2 ∷ SerialGap 5 1 ∷ []
+  -- closing begins a generation that has had no call yet, so a first one above the expected serial is let through
+  pub closed : replies (Open 7 0 ∷ Close 1 1 ∷ Begin 1 2 9 ∷ Begin 1 2 11 ∷ []) ≡ Opened 1 1 key ∷ Done ∷ Go ∷ SerialGap 11 0 ∷ []
   -- the second of two ranges that lie side by side: its first number, and a key with that number
   pub range_begins : replies_between 2097152 4194303 (Open 7 0 ∷ Begin 2097153 1 0 ∷ Begin 1 1 0 ∷ Resume (codes "c00200001!0000000000000007") 0 ∷ [])
       ≡ Opened 2097153 1 (codes "c00200001!0000000000000007") ∷ Go ∷ NoRecord ∷ Resumed 2097153 2 ∷ []

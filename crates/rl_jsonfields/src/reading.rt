@@ -69,7 +69,10 @@ pub fn required_whole(object: &Value, name: Field) -> Result<i128, WireFault>
 {
     match find(object, name) {
         None => Err(missing(name)),
-        Some(value) => whole_of(value).ok_or(bad(name)),
+        Some(value) => match whole_of(value) {
+            Some(n) => Ok(n),
+            None => Err(bad(name)),
+        },
     }
 }
 
@@ -81,7 +84,10 @@ pub fn required_signed(object: &Value, name: Field) -> Result<i64, WireFault>
 {
     match find(object, name) {
         None => Err(missing(name)),
-        Some(value) => signed_of(value).ok_or(bad(name)),
+        Some(value) => match signed_of(value) {
+            Some(n) => Ok(n),
+            None => Err(bad(name)),
+        },
     }
 }
 

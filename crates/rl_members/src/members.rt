@@ -16,7 +16,7 @@ use std::marker::Model;
 /// the list of these items, in order of key: by connection id, then by client id. (The order is this project's own.)
 ///
 /// With n members, a search looks at about log n keys. [`enter`](Members::enter) and [`leave`](Members::leave) then
-/// move those behind the place in one move of memory, [`gone`](Members::gone) looks at each member twice, and a page
+/// move those after the place in one move of memory, [`gone`](Members::gone) looks at each member twice, and a page
 /// costs a search and the items that it gives.
 #[derive(Drop)]
 pub struct Members {

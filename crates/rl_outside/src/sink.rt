@@ -19,7 +19,7 @@ pub trait Sink {
     /// How often a write has failed. The count stands still at 2^64 - 1.
     ghost faults: { Self → ℕ };
 
-    /// Writes some of the bytes, which are not none, behind those that were written.
+    /// Writes some of the bytes, which are not none, after those that were written.
     fn write(&mut self, from: &[u8]) -> Gave
         requires { 0 < length from.now }
         ensures bytes { WriteGives (written self.old) (written self.new) result from.now }

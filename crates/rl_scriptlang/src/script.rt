@@ -2,6 +2,7 @@
 ghost use Rattle.std.specs.Prelude.{◌≤◌, ◌+◌, length, IfOk};
 ghost use Rattle.rl_model.specs.Script.{script_of, published, fed};
 ghost use Rattle.rl_model.specs.Limits.{AreSmallLines};
+ghost use Rattle.rl_numbers.specs.declared.limits.TheConstants.{MAX_SCRIPT_SIZE};
 ghost use Rattle.rl_scriptlang.specs.Reads.{ReadsScript};
 
 use crate::ScriptFault;
@@ -17,7 +18,7 @@ use std::alloc::Global;
 /// A script of [`rl_numbers::limits::MAX_SCRIPT_SIZE`] bytes is read in time and memory that are linear in them.
 #[tactic(auto, using(crate::proofs::Small::small_lines))]
 pub fn read_script(alloc: Global, bytes: &[u8]) -> Result<Script, ScriptFault>
-    requires { length bytes.now ≤ 16777216 }
+    requires { length bytes.now ≤ MAX_SCRIPT_SIZE }
     ensures said { ReadsScript result (script_of bytes.now) }
     ensures small { IfOk result (λ script. AreSmallLines script.lines) }
     ensures few { IfOk result (λ script. published script.lines + fed script.lines ≤ MAX_PUT) }

@@ -1,5 +1,6 @@
 pub mod Again
 pub mod Cuts
+pub mod Direct
 pub mod Fits
 pub mod Flat
 pub mod ItemValues

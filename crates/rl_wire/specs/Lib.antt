@@ -3,3 +3,4 @@ pub mod Sendable
 pub mod Sizes
 pub mod Tables
 pub mod Texts
+pub mod Tokens

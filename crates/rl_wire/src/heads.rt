@@ -57,7 +57,10 @@ fn serial_in(value: &Value) -> Result<ChannelSerial, WireFault>
     ensures { Gives result (shaped fields.ChannelSerial (channel_serial (view value.now))) }
 {
     match value.as_str() {
-        Some(text) => read_serial(text).ok_or(bad(Field::ChannelSerial)),
+        Some(text) => match read_serial(text) {
+            Some(serial) => Ok(serial),
+            None => Err(bad(Field::ChannelSerial)),
+        },
         None => Err(bad(Field::ChannelSerial)),
     }
 }

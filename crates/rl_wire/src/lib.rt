@@ -13,6 +13,7 @@ mod heads;
 pub mod laws;
 mod lists;
 mod members;
+mod messages;
 mod reading;
 mod writing;
 

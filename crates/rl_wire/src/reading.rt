@@ -13,6 +13,7 @@ use crate::lists::{message_of, objects_of, operations_of, presence_of, sync_of};
 use rl_jsonfields::{
     Field, optional_number, optional_text, required_any_text, required_object, required_whole,
 };
+use rl_jsonread::read_value;
 use rl_numbers::limits::{
     CONNECTION_STATE_TTL, MAX_CHANNEL_NAME, MAX_FRAME_SIZE, MAX_IDLE_INTERVAL, MAX_MESSAGE_SIZE,
 };
@@ -190,7 +191,7 @@ fn value_frame(alloc: Global, value: &mut Value) -> Result<Option<Frame>, WireFa
 fn text_frame(alloc: Global, text: &str) -> Result<Option<Frame>, WireFault>
     ensures { Gives result (json_frame (read text.now)) }
 {
-    match Value::from_str(alloc, text) {
+    match read_value(alloc, text) {
         Ok(mut value) => value_frame(alloc, &mut value),
         Err(error) => Err(if error.is_memory() {
             WireFault::NoMemory

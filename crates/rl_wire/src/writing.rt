@@ -11,6 +11,7 @@ use crate::members::{
     error_members_of, message_members_of, nack_members_of, objects_members_of,
     operations_members_of, presence_members_of, sync_members_of,
 };
+use crate::messages::message_bytes;
 use rl_ids::{Blob, NoMemory};
 use rl_jsonfields::Object;
 use rl_numbers::actions;
@@ -73,6 +74,25 @@ fn value_of(alloc: Global, frame: &Frame) -> Result<Value, NoMemory>
     Ok(Value::Object(members_of(alloc, frame)?))
 }
 
+fn value_bytes(alloc: Global, frame: &Frame) -> Result<Vec<u8>, NoMemory>
+    ensures text { IfOk result (λ b. b.items ≡ frame_text frame.now) }
+    ensures utf8 { IfOk result (λ b. IsUtf8 b.items) }
+{
+    let value = value_of(alloc, frame)?;
+    Ok(value.to_vec(alloc)?)
+}
+
+// A MESSAGE, of which there are most, is written without its JSON value.
+fn bytes_of(alloc: Global, frame: &Frame) -> Result<Vec<u8>, NoMemory>
+    ensures text { IfOk result (λ b. b.items ≡ frame_text frame.now) }
+    ensures utf8 { IfOk result (λ b. IsUtf8 b.items) }
+{
+    match frame {
+        Frame::Message { head, items } => message_bytes(alloc, head, items),
+        _ => value_bytes(alloc, frame),
+    }
+}
+
 /// The text of a frame: one JSON object, without spaces, its fields in the order of their names, absent fields
 /// left out. Where the frame is one that can be sent and its text has at most [`MAX_FRAME_SIZE`](rl_numbers::limits::MAX_FRAME_SIZE) bytes, it is read as
 /// the same frame again.
@@ -81,6 +101,5 @@ pub fn write_frame(alloc: Global, frame: &Frame) -> Result<Blob, NoMemory>
     ensures utf8 { IfOk result (λ b. IsUtf8 b) }
     ensures reads_back { IfOk result (λ b. IsSendable frame.now → length b ≤ MAX_FRAME_SIZE → frame_at b ≡ Ok (Some frame.now)) }
 {
-    let value = value_of(alloc, frame)?;
-    Ok(Blob::from_vec(value.to_vec(alloc)?))
+    Ok(Blob::from_vec(bytes_of(alloc, frame)?))
 }

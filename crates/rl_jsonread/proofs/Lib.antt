@@ -1,0 +1,6 @@
+pub mod Bytes
+pub mod Lexed
+pub mod Lanes
+pub mod Reading
+pub mod Begins
+pub mod Nested
