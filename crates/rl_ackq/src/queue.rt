@@ -235,3 +235,24 @@ fn number_from_0(pending: &mut VecDeque<Pending>)
         pending[at].renumber(at as u64);
     }
 }
+
+impl Copied for AckQueue {
+    fn copy(&self, alloc: Global) -> Result<AckQueue, NoMemory> {
+        let pending = copy_all(alloc, &self.pending)?;
+        Ok(AckQueue {
+            pending,
+            next: self.next,
+        })
+    }
+}
+
+// Copies of the frames, in order.
+fn copy_all(alloc: Global, pending: &VecDeque<Pending>) -> Result<VecDeque<Pending>, NoMemory>
+    ensures { IfOk result (λ made. made.items ≡ pending.now.items) }
+{
+    let mut made = VecDeque::new(alloc);
+    for at in 0..pending.len() {
+        made.push_back(pending[at].copy(alloc)?)?;
+    }
+    Ok(made)
+}
