@@ -9,8 +9,9 @@
 
 use anyhow::{Context, Result, anyhow};
 use rl_channel::Channel;
+use rl_events::{Outcome, ReadReply, Verdict};
 use rl_ids::{ChannelSerial, ConnNo, Copied, Epoch, List, Moment, Place, Text, read_site};
-use rl_types::{Body, Given, Item, Outcome, ReadReply, Verdict};
+use rl_types::{Body, Given, Item};
 use std::alloc::Global;
 use std::env;
 use std::rt::Env;

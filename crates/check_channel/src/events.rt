@@ -1,7 +1,8 @@
 // The events that lines ask for.
 use anyhow::{Context, Result, anyhow};
+use rl_events::ChannelEvent;
 use rl_ids::{ChannelSerial, ConnNo, Epoch, List, MemberKey, Moment, Place, Text};
-use rl_types::{Body, ChannelEvent, Given, Item, PresenceAction, PresenceItem};
+use rl_types::{Body, Given, Item, PresenceAction, PresenceItem};
 use std::alloc::Global;
 
 fn split_two(text: &str) -> Result<(&str, &str)> {

@@ -1,9 +1,8 @@
 // The replies as texts.
 use anyhow::Result;
+use rl_events::{ChannelReply, Outcome, ReadReply, Verdict};
 use rl_ids::{List, Text};
-use rl_types::{
-    Body, ChannelReply, Entry, Item, Outcome, PresenceAction, PresenceItem, ReadReply, Verdict,
-};
+use rl_types::{Body, Entry, Item, PresenceAction, PresenceItem};
 use std::alloc::Global;
 
 fn verdict_text(alloc: Global, verdict: &Verdict) -> Result<String> {

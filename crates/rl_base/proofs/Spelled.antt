@@ -8,10 +8,10 @@ use Rattle.std.proofs.lemmas.Nat.{div-add-mod', mul-add-lt, row_below_turned}
 use Rattle.std.specs.Prelude.{true, ◌&&◌, ◌≤◌, Option, Some, None, IfSome, IsSome, is_some}
 use Rattle.std.proofs.Common.{true≢false}
 use Rattle.std.specs.List.{list_all}
-use Rattle.rl_base.specs.Digits.{fixed_text, digit_glyph, digit_value, is_digit, spelled, spelled_behind, IsPaddedDecimal}
+use Rattle.rl_base.specs.Digits.{fixed_text, digit_glyph, digit_value, is_digit, spelled, spelled_after, IsPaddedDecimal}
 use Rattle.rl_base.proofs.Digits.{fixed_push}
 
-spelled_push : (base high : ℕ) (xs : List ℕ) (g : ℕ) → spelled_behind base high (xs ++ g ∷ []) ≡ spelled_behind base high xs * base + digit_value base g
+spelled_push : (base high : ℕ) (xs : List ℕ) (g : ℕ) → spelled_after base high (xs ++ g ∷ []) ≡ spelled_after base high xs * base + digit_value base g
 spelled_push base high [] g = refl
 spelled_push base high (x ∷ xs) g = spelled_push base (high * base + digit_value base x) xs g
 
@@ -30,7 +30,7 @@ spelled_fixed base (suc k) n big low small =
     let last = value_of_glyph base (n % base) (mod-lt n (omega (arith, big))) low in
     spelled_push base 0 (fixed_text base k (n / base)) (digit_glyph (n % base)) ∙ rw (high, last) (div-add-mod' n base)
 
-spelled_below : (base high k : ℕ) (xs : List ℕ) → 0 < base → high < base ^ k → spelled_behind base high xs < base ^ (k + length xs)
+spelled_below : (base high k : ℕ) (xs : List ℕ) → 0 < base → high < base ^ k → spelled_after base high xs < base ^ (k + length xs)
 spelled_below base high k [] big small = rw (add-zero k) small
 spelled_below base high k (x ∷ xs) big small =
     let next : high * base + digit_value base x < base ^ suc k = rw (pow-succ' base k) (mul-add-lt high base (digit_value base x) (base ^ k) small (mod-lt _ big)) in
@@ -54,12 +54,12 @@ and_right : (a b : Bool) → (a && b) ≡ true → b ≡ true
 and_right true b is = is
 and_right false b is = absurd (cc)
 
-fixed_behind : (high k : ℕ) (xs : List ℕ) → list_all is_digit xs ≡ true → fixed_text 10 (k + length xs) (spelled_behind 10 high xs) ≡ fixed_text 10 k high ++ xs
+fixed_behind : (high k : ℕ) (xs : List ℕ) → list_all is_digit xs ≡ true → fixed_text 10 (k + length xs) (spelled_after 10 high xs) ≡ fixed_text 10 k high ++ xs
 fixed_behind high k [] digits = ap (λ n. fixed_text 10 n high) (add-zero k) ∙ sym (append-nil (fixed_text 10 k high))
 fixed_behind high k (x ∷ xs) digits =
     let own = and_left (is_digit x) (list_all is_digit xs) digits in
     let v = digit_value 10 x in
-    ap (λ n. fixed_text 10 n (spelled_behind 10 (high * 10 + v) xs)) (add-suc k (length xs) ∙ sym (suc-add k (length xs)))
+    ap (λ n. fixed_text 10 n (spelled_after 10 (high * 10 + v) xs)) (add-suc k (length xs) ∙ sym (suc-add k (length xs)))
     ∙ fixed_behind (high * 10 + v) (suc k) xs (and_right (is_digit x) (list_all is_digit xs) digits)
     ∙ ap (λ t. t ++ xs) (fixed_push 10 k high v (mod-lt _ (omega arith)) ∙ ap (λ g. fixed_text 10 k high ++ g ∷ []) (glyph_of_value x own))
     ∙ append_assoc (fixed_text 10 k high) (x ∷ []) xs

@@ -20,7 +20,7 @@ pub use code::{Code, Code16, Code64};
 pub use copied::Copied;
 pub use list::List;
 pub use memory::NoMemory;
-pub use numerals::{read_decimal, read_digits, read_fixed, read_padded_decimal};
+pub use numerals::{MAX_PADDED_DIGITS, read_decimal, read_digits, read_fixed, read_padded_decimal};
 pub use room::RoomyList;
 pub use same::Same;
 pub use text::Text;

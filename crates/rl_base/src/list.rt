@@ -103,7 +103,7 @@ impl<T: Drop> List<T> {
         Ok(())
     }
 
-    /// Moves all items of another list behind these.
+    /// Moves all items of another list after these.
     pub fn append(&mut self, more: List<T>) -> Result<(), NoMemory>
         ensures ok { OnOk result (self.new ≡ self.old ++ more) }
         ensures err { OnErr result (self.new ≡ self.old) }

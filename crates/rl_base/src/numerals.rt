@@ -101,13 +101,16 @@ pub fn read_decimal(bytes: &[u8]) -> Option<u64>
     }
 }
 
-/// The number that 1 to 38 decimal digits spell, with leading zeros where there are any. It is `None`
+/// The most digits of a decimal with leading zeros: so many fit in 128 bits, whatever they are.
+pub const MAX_PADDED_DIGITS: usize = 38;
+
+/// The number that 1 to [`MAX_PADDED_DIGITS`] decimal digits spell, with leading zeros where there are any. It is `None`
 /// exactly where the text is not so. It takes no memory.
 pub fn read_padded_decimal(bytes: &[u8]) -> Option<u128>
     ensures exactly { IsSome result ↔ IsPaddedDecimal bytes.now }
     ensures value { IfSome result (λ n. n ≡ spelled 10 bytes.now) }
 {
-    if bytes.is_empty() || bytes.len() > 38 {
+    if bytes.is_empty() || bytes.len() > MAX_PADDED_DIGITS {
         return None;
     }
     read_digits(bytes, 10)

@@ -1,7 +1,7 @@
 -- The last outcome of each connection.
 use Rattle.std.specs.Prelude.{◌≡◌, ◌≢◌, ℕ, List, Option, None, nat_eq, option_and_then}
 use Rattle.std.specs.Map.{lookup}
-use Rattle.rl_types.specs.declared.channel.Outcome.{Outcome}
+use Rattle.rl_events.specs.declared.channel.Outcome.{Outcome}
 
 -- what a contract sees of the outcomes
 pub record OutcomesView : Type 0 where

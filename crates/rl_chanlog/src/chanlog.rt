@@ -5,9 +5,10 @@ ghost use Rattle.rl_chanlog.specs.Keeps.{IsReady, Keeps};
 use crate::ids::Ids;
 use crate::outcomes::Outcomes;
 use crate::window::Window;
+use rl_events::{Outcome, ReadReply};
 use rl_ids::{ConnNo, Moment, NoMemory, Place, Text};
 use rl_numbers::limits::{MAX_REMEMBERED, MAX_WINDOW_ENTRIES};
-use rl_types::{Entry, Outcome, ReadReply};
+use rl_types::Entry;
 use std::alloc::Global;
 use std::marker::Model;
 

@@ -2,8 +2,8 @@
 ghost use Rattle.std.specs.Prelude.{◌≡◌, ◌≢◌, ℕ, [], OnOk, OnErr, IsOk, Some, None, if◌then◌else◌, ◌==◌};
 ghost use Rattle.rl_chanlog.specs.Outcomes.{HasPlace, IsPlaced, kept_in, outcome_in};
 
+use rl_events::Outcome;
 use rl_ids::NoMemory;
-use rl_types::Outcome;
 use std::alloc::Global;
 use std::collections::HashMap;
 use std::marker::Model;

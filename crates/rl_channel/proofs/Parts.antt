@@ -2,11 +2,11 @@
 use Rattle.std.proofs.Common.{◌≡◌, ℕ, ◌+◌, true, false, List, [], ◌∷◌, ◌++◌, length, refl, ap, sym, ◌∙◌, arith, length-append}
 use Rattle.std.specs.Prelude.{max, Option, Some, None, nat_lt, option_to_list}
 use Rattle.std.specs.List.{cons_option}
-use Rattle.rl_types.specs.declared.channel.ChannelEvent.{ChannelEvent}
-use Rattle.rl_types.specs.declared.channel.ChannelEvent.TheVariants.{Put, Join, Read, MemberPage, ObjectPage, Gone, Tick, Census}
-use Rattle.rl_types.specs.declared.channel.Verdict.{Verdict}
-use Rattle.rl_types.specs.declared.channel.Verdict.TheVariants.{Done, Old}
-use Rattle.rl_types.specs.declared.channel.Outcome.TheVariants.{Taken}
+use Rattle.rl_events.specs.declared.channel.ChannelEvent.{ChannelEvent}
+use Rattle.rl_events.specs.declared.channel.ChannelEvent.TheVariants.{Put, Join, Read, MemberPage, ObjectPage, Gone, Tick, Census}
+use Rattle.rl_events.specs.declared.channel.Verdict.{Verdict}
+use Rattle.rl_events.specs.declared.channel.Verdict.TheVariants.{Done, Old}
+use Rattle.rl_events.specs.declared.channel.Outcome.TheVariants.{Taken}
 use Rattle.rl_types.specs.declared.messages.Body.{Body}
 use Rattle.rl_types.specs.declared.messages.Entry.{Entry}
 use Rattle.rl_types.specs.declared.messages.Given.{Given}

@@ -1,11 +1,11 @@
 -- What the parts of a history answer is what the history answers.
 use Rattle.std.proofs.Common.{◌≡◌, ℕ, List, ◌∷◌, refl, ap, sym, ◌∙◌, subst, arith}
 use Rattle.std.specs.Prelude.{Option, Some, None, max, Result, Ok, Err, IfOk}
-use Rattle.rl_types.specs.declared.channel.ReadReply.{ReadReply}
+use Rattle.rl_events.specs.declared.channel.ReadReply.{ReadReply}
 use Rattle.rl_ids.specs.declared.members.MemberKey.{MemberKey}
 use Rattle.rl_ids.specs.declared.objects.ObjectId.{ObjectId}
-use Rattle.rl_types.specs.declared.channel.ChannelEvent.{ChannelEvent}
-use Rattle.rl_types.specs.declared.channel.ChannelEvent.TheVariants.{Join, Read, MemberPage, ObjectPage, Tick, Census}
+use Rattle.rl_events.specs.declared.channel.ChannelEvent.{ChannelEvent}
+use Rattle.rl_events.specs.declared.channel.ChannelEvent.TheVariants.{Join, Read, MemberPage, ObjectPage, Tick, Census}
 use Rattle.rl_types.specs.declared.messages.Given.{Given}
 use Rattle.rl_types.specs.declared.messages.Given.TheVariants.{Ours, Other}
 use Rattle.rl_model.specs.History.{clock}

@@ -1,8 +1,8 @@
 -- What a channel keeps, and the history that it stands for.
 use Rattle.std.specs.Prelude.{◌≡◌, ℕ, List, ◌∷◌, Bool, true, false}
-use Rattle.rl_types.specs.declared.channel.ChannelEvent.{ChannelEvent}
-use Rattle.rl_types.specs.declared.channel.ChannelEvent.TheVariants.{Put, Join, Tick, Census}
-use Rattle.rl_types.specs.declared.channel.Verdict.{Verdict}
+use Rattle.rl_events.specs.declared.channel.ChannelEvent.{ChannelEvent}
+use Rattle.rl_events.specs.declared.channel.ChannelEvent.TheVariants.{Put, Join, Tick, Census}
+use Rattle.rl_events.specs.declared.channel.Verdict.{Verdict}
 use Rattle.rl_types.specs.declared.messages.Body.{Body}
 use Rattle.rl_channel.specs.Steps.{verdict_of}
 use Rattle.rl_types.specs.declared.presence.PresenceItem.{PresenceItem}

@@ -1,7 +1,7 @@
 ghost use Rattle.std.specs.Prelude.{◌≡◌, ◌≢◌, ◌||◌, ◌==◌, not, if◌then◌else◌, ◌+◌, ◌-◌, ◌^◌, ◌<◌, ◌≤◌, ◌∷◌, [], List, IfOk, OnOk, OnErr, length, max, Option, Some, None};
-ghost use Rattle.rl_types.specs.declared.channel.ChannelEvent.{ChannelEvent};
-ghost use Rattle.rl_types.specs.declared.channel.Outcome.TheVariants.{Taken, Refused};
-ghost use Rattle.rl_types.specs.declared.channel.Verdict.TheVariants.{Done};
+ghost use Rattle.rl_events.specs.declared.channel.ChannelEvent.{ChannelEvent};
+ghost use Rattle.rl_events.specs.declared.channel.Outcome.TheVariants.{Taken, Refused};
+ghost use Rattle.rl_events.specs.declared.channel.Verdict.TheVariants.{Done};
 ghost use Rattle.std.specs.Option.{option_copied};
 ghost use Rattle.rl_types.specs.Weight.{body_weight};
 ghost use Rattle.rl_model.specs.Members.{is_last_page, members, page_items};
@@ -19,10 +19,11 @@ use crate::filling::{copied_id, filled, given_id};
 use crate::judging::judged_early;
 use crate::objects::states_after;
 use rl_chanlog::ChanLog;
+use rl_events::{Outcome, ReadReply, Verdict};
 use rl_ids::{ConnNo, Epoch, List, MemberKey, Moment, NoMemory, ObjectId, Place, SiteCode, Text};
 use rl_members::Members;
 use rl_numbers::limits::{MAX_MESSAGE_SIZE, MAX_PLACE};
-use rl_types::{Body, Entry, Given, ObjectState, Outcome, PresenceItem, ReadReply, Verdict};
+use rl_types::{Body, Entry, Given, ObjectState, PresenceItem};
 use std::alloc::Global;
 use std::marker::Model;
 

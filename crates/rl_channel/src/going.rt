@@ -1,6 +1,6 @@
 // A connection goes for good, and its members with it.
 ghost use Rattle.std.specs.Prelude.{◌≡◌, ◌≤◌, ◌∷◌, ◌++◌, List, map, filter, reverse, IfOk, OnOk, OnErr, option_map};
-ghost use Rattle.rl_types.specs.declared.channel.ChannelEvent.{ChannelEvent};
+ghost use Rattle.rl_events.specs.declared.channel.ChannelEvent.{ChannelEvent};
 ghost use Rattle.rl_types.specs.declared.messages.Entry as entries;
 ghost use Rattle.rl_types.specs.declared.presence.PresenceItem as items;
 ghost use Rattle.rl_model.specs.Members.{is_on, members_of};

@@ -6,13 +6,14 @@ ghost use Rattle.rl_model.specs.Ids.{has_id, has_long, has_mixed_ids, is_long_id
 ghost use Rattle.rl_model.specs.Verdict.{Adds, has_no_client, is_bad_action, judged_by_rules, own_rule};
 ghost use Rattle.rl_channel.specs.Steps.{early, settled, settled_by_serial};
 
+use rl_events::{Outcome, Verdict};
 use rl_ids::{Place, Text};
 use rl_numbers::codes::{BAD_ACTION, BAD_IDS, LOG_FULL, NO_CLIENT_ID, TOO_LONG};
 use rl_numbers::limits::{
     MAX_CLIENT_ID, MAX_MESSAGE_ID, MAX_MESSAGE_SIZE, MAX_PLACE, MAX_PRESENCE_DATA,
     MAX_PRESENCE_ENCODING,
 };
-use rl_types::{Body, Item, Outcome, PresenceAction, PresenceItem, Verdict, weight};
+use rl_types::{Body, Item, PresenceAction, PresenceItem, weight};
 
 // The answer to a serial that is not above the connection's last one.
 fn judged_by_serial(last: Option<(u64, Outcome)>, serial: u64) -> Option<Verdict>

@@ -1,13 +1,14 @@
 // The channel as a machine: each event by the call that takes it.
 ghost use Rattle.std.specs.Prelude.{◌≡◌, ◌∷◌, List, true, IfOk, OnErr, IsOk};
-ghost use Rattle.rl_types.specs.declared.channel.ChannelEvent as events;
+ghost use Rattle.rl_events.specs.declared.channel.ChannelEvent as events;
 ghost use Rattle.rl_model.specs.Reply.{reply};
 ghost use Rattle.rl_channel.specs.State.{StandsFor, is_spare};
 
 use crate::channel::{Channel, ChannelSetup};
+use rl_events::{ChannelEvent, ChannelReply};
 use rl_ids::{ChannelSerial, MemberKey, NoMemory, ObjectId};
 use rl_turnlock::Machine;
-use rl_types::{ChannelEvent, ChannelReply, Given};
+use rl_types::Given;
 use std::alloc::Global;
 
 impl Channel {

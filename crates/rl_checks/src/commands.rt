@@ -1,10 +1,9 @@
 // Commands, lines, and what sessions ask and are answered are copied.
 use crate::base::is_copied;
+use rl_events::{BookReply, Call, ChannelNo, ChannelReply, DirEvent, DirReply, End, Reply};
 use rl_ids::{ChannelSerial, Epoch, List, NoMemory, Place, Text};
-use rl_types::{
-    BookReply, Call, ChannelNo, ChannelReply, Command, ConnState, DirEvent, DirReply, End, Hello,
-    Line, Output, RecoveryKey, Reply, Stands,
-};
+use rl_runs::{Command, Hello, Line, Output, RecoveryKey, Stands};
+use rl_types::ConnState;
 use std::alloc::Global;
 
 fn word(alloc: Global) -> Result<Text, NoMemory> {

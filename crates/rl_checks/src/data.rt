@@ -1,13 +1,12 @@
 // Copies of plain data that no script comes to.
 use crate::base::is_copied;
+use rl_events::{ChannelEvent, ChannelReply, Outcome, ReadReply, Verdict};
 use rl_ids::{
     ChannelSerial, ConnNo, Epoch, List, MemberKey, Moment, NoMemory, ObjectKind, OpSerial, Place,
     Text, read_site,
 };
-use rl_types::{
-    Answer, Body, Cause, ChanState, ChannelEvent, ChannelReply, ConnState, Given, Outcome,
-    ReadReply, ScriptCause, Verdict,
-};
+use rl_runs::{Answer, Cause, ScriptCause};
+use rl_types::{Body, ChanState, ConnState, Given};
 use std::alloc::Global;
 
 fn serial(place: u64) -> ChannelSerial {

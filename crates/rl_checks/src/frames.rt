@@ -1,7 +1,8 @@
 // Frames are copied, and so are the events and replies of the book of connections.
 use crate::base::is_copied;
+use rl_events::{BookEvent, BookReply, Outcome};
 use rl_ids::{ConnNo, List, Moment, NoMemory, Text};
-use rl_types::{BookEvent, BookReply, Outcome, WireFault};
+use rl_types::WireFault;
 use rl_wire::read_frame;
 use std::alloc::Global;
 

@@ -4,10 +4,8 @@ use rl_ids::{
     read_object_id, read_site,
 };
 use rl_report::report;
-use rl_types::{
-    Body, ChanState, ChannelFindings, ChannelView, ClientFindings, ConnState, Entry, Findings,
-    MapCell, ObjectBody, ObjectOp, ObjectState, Op, Record,
-};
+use rl_runs::{ChannelFindings, ChannelView, ClientFindings, Findings, Record};
+use rl_types::{Body, ChanState, ConnState, Entry, MapCell, ObjectBody, ObjectOp, ObjectState, Op};
 use std::alloc::Global;
 
 fn counter() -> ObjectId {

@@ -1,10 +1,8 @@
 // Presence items, printed.
 use rl_ids::{ConnNo, Copied, Epoch, List, Moment, NoMemory, Place, Text};
 use rl_report::report;
-use rl_types::{
-    Body, ChanState, ChannelFindings, ChannelView, ClientFindings, ConnState, Entry, Findings,
-    PresenceAction, PresenceItem, Record,
-};
+use rl_runs::{ChannelFindings, ChannelView, ClientFindings, Findings, Record};
+use rl_types::{Body, ChanState, ConnState, Entry, PresenceAction, PresenceItem};
 use std::alloc::Global;
 
 fn item(alloc: Global, action: PresenceAction, client: &str) -> Result<PresenceItem, NoMemory> {

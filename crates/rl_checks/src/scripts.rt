@@ -2,8 +2,8 @@
 use crate::base::is_copied;
 use rl_ids::NoMemory;
 use rl_report::report;
+use rl_runs::ScriptCause;
 use rl_scriptlang::{ScriptFault, read_script};
-use rl_types::ScriptCause;
 use rl_world::run;
 use std::alloc::Global;
 

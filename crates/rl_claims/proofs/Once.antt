@@ -3,11 +3,11 @@ use Rattle.std.proofs.Common.{◌≡◌, ℕ, zero, suc, ◌+◌, ◌-◌, ◌<�
 use Rattle.std.specs.Prelude.{⊤, Option, Some, None, find, option_map, option_to_list, option_and_then, nat_lt, ◌==◌}
 use Rattle.std.specs.List.{AllByRecursion, cons_option}
 use Rattle.std.proofs.lemmas.Slice.Eq.{bytes_eq-Decides}
-use Rattle.rl_types.specs.declared.channel.ChannelEvent.{ChannelEvent}
-use Rattle.rl_types.specs.declared.channel.ChannelEvent.TheVariants.{Put, Join, Read, MemberPage, ObjectPage, Gone, Tick, Census}
+use Rattle.rl_events.specs.declared.channel.ChannelEvent.{ChannelEvent}
+use Rattle.rl_events.specs.declared.channel.ChannelEvent.TheVariants.{Put, Join, Read, MemberPage, ObjectPage, Gone, Tick, Census}
 use Rattle.rl_types.specs.declared.presence.PresenceItem.{PresenceItem}
 use Rattle.rl_types.specs.declared.messages.Entry.{Entry}
-use Rattle.rl_types.specs.declared.channel.Outcome.{Outcome}
+use Rattle.rl_events.specs.declared.channel.Outcome.{Outcome}
 use Rattle.rl_types.specs.declared.messages.Body.{Body}
 use Rattle.rl_numbers.specs.declared.limits.TheConstants.{MAX_PLACE, MAX_REMEMBERED}
 use Rattle.rl_model.specs.History.{Setting, setting}

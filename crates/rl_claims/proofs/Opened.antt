@@ -7,13 +7,13 @@ use Rattle.rl_types.specs.declared.messages.Body.{Body}
 use Rattle.rl_types.specs.declared.messages.Body.TheVariants.{Messages}
 use Rattle.rl_types.specs.declared.messages.Given.{Given}
 use Rattle.rl_types.specs.declared.messages.Given.TheVariants.{Ours}
-use Rattle.rl_types.specs.declared.findings.Answer.{Answer}
-use Rattle.rl_types.specs.declared.findings.Cause.TheVariants.{Opened, NotRetained}
-use Rattle.rl_types.specs.declared.findings.Segment.{Segment}
-use Rattle.rl_types.specs.declared.script.Line.{Line}
-use Rattle.rl_types.specs.declared.script.Line.TheVariants as lines
-use Rattle.rl_types.specs.declared.commands.Command.{Command}
-use Rattle.rl_types.specs.declared.commands.Command.TheVariants.{Attach, AttachAt, Publish}
+use Rattle.rl_runs.specs.declared.findings.Answer.{Answer}
+use Rattle.rl_runs.specs.declared.findings.Cause.TheVariants.{Opened, NotRetained}
+use Rattle.rl_runs.specs.declared.findings.Segment.{Segment}
+use Rattle.rl_runs.specs.declared.script.Line.{Line}
+use Rattle.rl_runs.specs.declared.script.Line.TheVariants as lines
+use Rattle.rl_runs.specs.declared.commands.Command.{Command}
+use Rattle.rl_runs.specs.declared.commands.Command.TheVariants.{Attach, AttachAt, Publish}
 use Rattle.rl_types.specs.declared.states.ConnState.{ConnState}
 use Rattle.rl_types.specs.declared.states.ConnState.TheVariants as conn
 use Rattle.rl_types.specs.declared.states.ChanState.{ChanState}
@@ -22,7 +22,7 @@ use Rattle.rl_model.specs.declared.plain.Client.{Client}
 use Rattle.rl_model.specs.declared.plain.Sent.{Sent}
 use Rattle.rl_model.specs.declared.plain.Sent.TheVariants.{Asks, Sends}
 use Rattle.rl_model.specs.Verdict.{log, decisions, verdict}
-use Rattle.rl_types.specs.declared.channel.ChannelEvent.TheVariants.{Put}
+use Rattle.rl_events.specs.declared.channel.ChannelEvent.TheVariants.{Put}
 use Rattle.rl_model.specs.History.{setting}
 use Rattle.rl_model.specs.Reply.{is_resumed, joined_place}
 use Rattle.rl_model.specs.Records.{the_epoch, the_site, segment_from, segments_after, caught_up, got_in, last_segment, held_of}

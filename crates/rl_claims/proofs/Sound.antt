@@ -4,19 +4,19 @@ use Rattle.std.specs.Prelude.{⊤, Option, Some, None, fold, nat_le, ◌==◌, �
 use Rattle.std.specs.List.{AllByRecursion}
 use Rattle.std.proofs.lemmas.Bool.{leb-true}
 use Rattle.std.proofs.lemmas.List.{map-append, length-map, take_all, take-append-drop, drop-drop}
-use Rattle.rl_types.specs.declared.channel.ChannelEvent.{ChannelEvent}
-use Rattle.rl_types.specs.declared.channel.ChannelEvent.TheVariants.{Put, Join, Read, MemberPage, ObjectPage, Gone, Tick, Census}
+use Rattle.rl_events.specs.declared.channel.ChannelEvent.{ChannelEvent}
+use Rattle.rl_events.specs.declared.channel.ChannelEvent.TheVariants.{Put, Join, Read, MemberPage, ObjectPage, Gone, Tick, Census}
 use Rattle.rl_types.specs.declared.messages.Entry.{Entry}
 use Rattle.rl_types.specs.declared.messages.Body.{Body}
 use Rattle.rl_types.specs.declared.messages.Given.{Given}
 use Rattle.rl_types.specs.declared.messages.Given.TheVariants.{Ours, Other}
-use Rattle.rl_types.specs.declared.findings.Cause.{Cause}
-use Rattle.rl_types.specs.declared.findings.Cause.TheVariants.{Opened, NotRetained, Recovered}
-use Rattle.rl_types.specs.declared.findings.Segment.{Segment}
-use Rattle.rl_types.specs.declared.script.Line.{Line}
-use Rattle.rl_types.specs.declared.script.Line.TheVariants as lines
-use Rattle.rl_types.specs.declared.commands.Command.{Command}
-use Rattle.rl_types.specs.declared.commands.Command.TheVariants.{Attach, AttachAt, Publish}
+use Rattle.rl_runs.specs.declared.findings.Cause.{Cause}
+use Rattle.rl_runs.specs.declared.findings.Cause.TheVariants.{Opened, NotRetained, Recovered}
+use Rattle.rl_runs.specs.declared.findings.Segment.{Segment}
+use Rattle.rl_runs.specs.declared.script.Line.{Line}
+use Rattle.rl_runs.specs.declared.script.Line.TheVariants as lines
+use Rattle.rl_runs.specs.declared.commands.Command.{Command}
+use Rattle.rl_runs.specs.declared.commands.Command.TheVariants.{Attach, AttachAt, Publish}
 use Rattle.rl_types.specs.declared.states.ConnState.{ConnState}
 use Rattle.rl_types.specs.declared.states.ConnState.TheVariants as conn
 use Rattle.rl_types.specs.declared.states.ChanState.{ChanState}

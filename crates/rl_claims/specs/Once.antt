@@ -2,7 +2,7 @@
 use Rattle.std.specs.Prelude.{◌≡◌, ℕ, ◌+◌, ◌<◌, List, [], ◌∷◌, Some, ⊤}
 use Rattle.std.specs.List.{AllByRecursion}
 use Rattle.rl_numbers.specs.declared.limits.TheConstants.{MAX_REMEMBERED}
-use Rattle.rl_types.specs.declared.channel.ChannelEvent.{ChannelEvent}
+use Rattle.rl_events.specs.declared.channel.ChannelEvent.{ChannelEvent}
 use Rattle.rl_model.specs.Verdict.{decisions, Added, added}
 
 -- entries, the latest first, of which each stands farther behind any earlier one with its id than ids are remembered

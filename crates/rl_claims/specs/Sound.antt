@@ -1,15 +1,15 @@
 -- What a record may be trusted for, in terms of the channel's one log.
 use Rattle.std.specs.Prelude.{◌≡◌, ℕ, ◌≤◌, true, false, List, [], ◌∷◌, map, length, take, slice_get, Option, Some, None, ◌⊎◌, ⊤}
 use Rattle.std.specs.List.{AllByRecursion}
-use Rattle.rl_types.specs.declared.channel.ChannelEvent.{ChannelEvent}
-use Rattle.rl_types.specs.declared.channel.ChannelEvent.TheVariants.{Join}
+use Rattle.rl_events.specs.declared.channel.ChannelEvent.{ChannelEvent}
+use Rattle.rl_events.specs.declared.channel.ChannelEvent.TheVariants.{Join}
 use Rattle.rl_types.specs.declared.messages.Given.{Given}
-use Rattle.rl_types.specs.declared.script.Line.{Line}
+use Rattle.rl_runs.specs.declared.script.Line.{Line}
 use Rattle.rl_types.specs.declared.states.ChanState.{ChanState}
 use Rattle.rl_types.specs.declared.states.ChanState.TheVariants.{Detached, Suspended, Failed}
-use Rattle.rl_types.specs.declared.findings.Cause.{Cause}
-use Rattle.rl_types.specs.declared.findings.Cause.TheVariants.{Opened, NotRetained, Recovered, Moved, Jump}
-use Rattle.rl_types.specs.declared.findings.Segment.{Segment}
+use Rattle.rl_runs.specs.declared.findings.Cause.{Cause}
+use Rattle.rl_runs.specs.declared.findings.Cause.TheVariants.{Opened, NotRetained, Recovered, Moved, Jump}
+use Rattle.rl_runs.specs.declared.findings.Segment.{Segment}
 use Rattle.rl_model.specs.declared.plain.Client.{Client}
 use Rattle.rl_model.specs.Verdict.{log, head, run_between}
 use Rattle.rl_model.specs.Reply.{is_resumed, joined_place}

@@ -1,7 +1,7 @@
 //! Laws over the definitions alone. Each is a function that does nothing: its contract is the law.
 ghost use Rattle.std.specs.Prelude.{ℕ, List};
-ghost use Rattle.rl_types.specs.declared.channel.ChannelEvent.{ChannelEvent};
-ghost use Rattle.rl_types.specs.declared.script.Line.{Line};
+ghost use Rattle.rl_events.specs.declared.channel.ChannelEvent.{ChannelEvent};
+ghost use Rattle.rl_runs.specs.declared.script.Line.{Line};
 ghost use Rattle.rl_model.specs.World.{final};
 ghost use Rattle.rl_claims.specs.Once.{OnceById};
 ghost use Rattle.rl_claims.specs.Sound.{HasSoundRecords, OpensAgainOnlyAfterLeaving};

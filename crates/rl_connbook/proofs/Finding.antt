@@ -12,7 +12,7 @@ use Rattle.std.proofs.lemmas.Bool.Decides.{nat_tests}
 use Rattle.std.proofs.lemmas.List.{take-append-le, take_all}
 use Rattle.rl_base.specs.Digits.{fixed_text}
 use Rattle.rl_base.proofs.Digits.{fixed_lengths}
-use Rattle.rl_types.specs.declared.book.BookReply.TheVariants.{Resumed, KeyUnknown}
+use Rattle.rl_events.specs.declared.book.BookReply.TheVariants.{Resumed, KeyUnknown}
 use Rattle.rl_connbook.specs.declared.record.Record.{Record}
 use Rattle.rl_connbook.specs.Records.{is_open, raised}
 use Rattle.rl_connbook.specs.Book.{has_key, may_resume, resumed, is_over, key_text}

@@ -3,10 +3,10 @@ use Rattle.std.proofs.Common.{◌≡◌, ℕ, ◌+◌, ◌<◌, Bool, true, fals
 use Rattle.std.specs.Prelude.{Option, Some, None, if◌then◌else◌, not}
 use Rattle.std.specs.List.{AllByRecursion, filter}
 use Rattle.std.proofs.lemmas.Bool.Decides.{nat_tests}
-use Rattle.rl_types.specs.declared.book.BookEvent.TheVariants.{Open, End, Expire}
-use Rattle.rl_types.specs.declared.book.BookReply.{BookReply}
-use Rattle.rl_types.specs.declared.book.BookReply.TheVariants.{Limit, NoRecord}
-use Rattle.rl_types.specs.declared.channel.Outcome.{Outcome}
+use Rattle.rl_events.specs.declared.book.BookEvent.TheVariants.{Open, End, Expire}
+use Rattle.rl_events.specs.declared.book.BookReply.{BookReply}
+use Rattle.rl_events.specs.declared.book.BookReply.TheVariants.{Limit, NoRecord}
+use Rattle.rl_events.specs.declared.channel.Outcome.{Outcome}
 use Rattle.rl_connbook.specs.declared.record.Record.{Record}
 use Rattle.rl_connbook.specs.Book.{Book, is_full, opened, opened_as, is_opened, is_over, key_text}
 use Rattle.rl_connbook.specs.Sound.{IsSound, IsNumbered}

@@ -7,11 +7,11 @@ use Rattle.std.specs.Ordering.{nat_cmp}
 use Rattle.rl_numbers.specs.declared.limits.TheConstants.{MAX_CONNECTIONS, MAX_RESUMED_GENERATION, CONNECTION_STATE_TTL}
 use Rattle.rl_base.specs.Digits.{fixed_text}
 use Rattle.rl_ids.specs.Forms.{conn_text}
-use Rattle.rl_types.specs.declared.book.BookEvent.{BookEvent}
-use Rattle.rl_types.specs.declared.book.BookEvent.TheVariants.{Open, Resume, Begin, End, Lost, Close, Expire}
-use Rattle.rl_types.specs.declared.book.BookReply.{BookReply}
-use Rattle.rl_types.specs.declared.book.BookReply.TheVariants.{Opened, Limit, Resumed, KeyUnknown, Go, Known, SerialGap, SerialOld, Superseded, NoRecord, Done, Expired}
-use Rattle.rl_types.specs.declared.channel.Outcome.{Outcome}
+use Rattle.rl_events.specs.declared.book.BookEvent.{BookEvent}
+use Rattle.rl_events.specs.declared.book.BookEvent.TheVariants.{Open, Resume, Begin, End, Lost, Close, Expire}
+use Rattle.rl_events.specs.declared.book.BookReply.{BookReply}
+use Rattle.rl_events.specs.declared.book.BookReply.TheVariants.{Opened, Limit, Resumed, KeyUnknown, Go, Known, SerialGap, SerialOld, Superseded, NoRecord, Done, Expired}
+use Rattle.rl_events.specs.declared.channel.Outcome.{Outcome}
 use Rattle.rl_connbook.specs.declared.range.NumberRange.{NumberRange}
 use Rattle.rl_connbook.specs.declared.record.Record.{Record}
 use Rattle.rl_connbook.specs.declared.record.Standing.{Standing}

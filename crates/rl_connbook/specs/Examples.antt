@@ -1,10 +1,10 @@
 -- Examples of what the book replies.
 use Rattle.std.specs.Prelude.{◌≡◌, ℕ, List, [], ◌∷◌, map, reverse, codes, Some}
-use Rattle.rl_types.specs.declared.book.BookEvent.{BookEvent}
-use Rattle.rl_types.specs.declared.book.BookEvent.TheVariants.{Open, Resume, Begin, End, Lost, Close, Expire}
-use Rattle.rl_types.specs.declared.book.BookReply.{BookReply}
-use Rattle.rl_types.specs.declared.book.BookReply.TheVariants.{Opened, Limit, Resumed, KeyUnknown, Go, Known, SerialGap, SerialOld, Superseded, NoRecord, Done, Expired}
-use Rattle.rl_types.specs.declared.channel.Outcome.TheVariants.{Taken}
+use Rattle.rl_events.specs.declared.book.BookEvent.{BookEvent}
+use Rattle.rl_events.specs.declared.book.BookEvent.TheVariants.{Open, Resume, Begin, End, Lost, Close, Expire}
+use Rattle.rl_events.specs.declared.book.BookReply.{BookReply}
+use Rattle.rl_events.specs.declared.book.BookReply.TheVariants.{Opened, Limit, Resumed, KeyUnknown, Go, Known, SerialGap, SerialOld, Superseded, NoRecord, Done, Expired}
+use Rattle.rl_events.specs.declared.channel.Outcome.TheVariants.{Taken}
 use Rattle.rl_numbers.specs.declared.limits.TheConstants.{MAX_CONNECTION}
 use Rattle.rl_connbook.specs.Records.{Answered}
 use Rattle.rl_connbook.specs.Book.{history}

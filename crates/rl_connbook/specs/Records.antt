@@ -1,11 +1,11 @@
 -- What a connection's record is, by the answered events that concern the connection.
 use Rattle.std.specs.Prelude.{ℕ, ◌+◌, ◌-◌, ◌^◌, min, Bool, true, false, ◌&&◌, ◌==◌, nat_le, nat_lt, if◌then◌else◌, List, [], ◌∷◌, ◌++◌, length, drop, Some}
 use Rattle.std.specs.List.{filter}
-use Rattle.rl_types.specs.declared.book.BookEvent.{BookEvent}
-use Rattle.rl_types.specs.declared.book.BookEvent.TheVariants.{Open, Resume, Begin, End, Lost, Close}
-use Rattle.rl_types.specs.declared.book.BookReply.{BookReply}
-use Rattle.rl_types.specs.declared.book.BookReply.TheVariants.{Opened, Resumed, Go, Superseded, NoRecord, Done}
-use Rattle.rl_types.specs.declared.channel.Outcome.{Outcome}
+use Rattle.rl_events.specs.declared.book.BookEvent.{BookEvent}
+use Rattle.rl_events.specs.declared.book.BookEvent.TheVariants.{Open, Resume, Begin, End, Lost, Close}
+use Rattle.rl_events.specs.declared.book.BookReply.{BookReply}
+use Rattle.rl_events.specs.declared.book.BookReply.TheVariants.{Opened, Resumed, Go, Superseded, NoRecord, Done}
+use Rattle.rl_events.specs.declared.channel.Outcome.{Outcome}
 use Rattle.rl_numbers.specs.declared.limits.TheConstants.{MAX_MESSAGE_SERIAL, MAX_KEPT_OUTCOMES}
 use Rattle.rl_connbook.specs.declared.record.Record.{Record}
 use Rattle.rl_connbook.specs.declared.record.Standing.{Standing}

@@ -4,10 +4,10 @@ use Rattle.std.specs.Map.{remove_entry}
 use Rattle.std.specs.BTreeMap.{is_at}
 use Rattle.std.specs.Ordering.{nat_cmp}
 use Rattle.std.specs.List.{filter}
-use Rattle.rl_types.specs.declared.book.BookEvent.{BookEvent}
-use Rattle.rl_types.specs.declared.book.BookEvent.TheVariants.{Open, Expire}
-use Rattle.rl_types.specs.declared.book.BookReply.{BookReply}
-use Rattle.rl_types.specs.declared.book.BookReply.TheVariants.{Opened}
+use Rattle.rl_events.specs.declared.book.BookEvent.{BookEvent}
+use Rattle.rl_events.specs.declared.book.BookEvent.TheVariants.{Open, Expire}
+use Rattle.rl_events.specs.declared.book.BookReply.{BookReply}
+use Rattle.rl_events.specs.declared.book.BookReply.TheVariants.{Opened}
 use Rattle.rl_connbook.specs.declared.record.Record.{Record}
 use Rattle.rl_connbook.specs.declared.record.Standing.TheVariants.{Live}
 use Rattle.rl_connbook.specs.Records.{standing_after, generation_after, begun_after, expected_after, outcomes_after, busy_after, key_after, is_of}

@@ -1,16 +1,16 @@
 ghost use Rattle.std.specs.Prelude.{◌≡◌, ◌≤◌, ◌+◌, ◌-◌, ◌^◌, ◌++◌, ◌∷◌, [], ℕ, List, Some, OnOk, OnErr, ◌&&◌, bytes_eq};
-ghost use Rattle.rl_types.specs.declared.book.BookEvent.{BookEvent};
-ghost use Rattle.rl_types.specs.declared.book.BookReply.TheVariants.{Resumed, Done, Superseded};
+ghost use Rattle.rl_events.specs.declared.book.BookEvent.{BookEvent};
+ghost use Rattle.rl_events.specs.declared.book.BookReply.TheVariants.{Resumed, Done, Superseded};
 ghost use Rattle.rl_connbook.specs.Records.{latest, lowered, raised, is_open, expected_after, outcomes_after};
 ghost use Rattle.rl_connbook.specs.Book.{begun, may_resume, kept_outcome, is_over};
 ghost use Rattle.rl_connbook.specs.Steps.{record_after, new_record};
 ghost use Rattle.rl_connbook.specs.Due.{due_at};
 
+use rl_events::{BookReply, Outcome};
 use rl_ids::{List, Moment, NoMemory, Text};
 use rl_numbers::limits::{
     CONNECTION_STATE_TTL, MAX_KEPT_OUTCOMES, MAX_MESSAGE_SERIAL, MAX_RESUMED_GENERATION,
 };
-use rl_types::{BookReply, Outcome};
 use std::alloc::Global;
 
 // Whether a connection's transport is there.

@@ -1,8 +1,8 @@
 // What no clause says: that calls succeed where memory lasts.
 use crate::ConnBook;
+use rl_events::{BookEvent, BookReply, Outcome};
 use rl_ids::{ConnNo, List, Moment, NoMemory, Text};
 use rl_turnlock::Machine;
-use rl_types::{BookEvent, BookReply, Outcome};
 use std::alloc::Global;
 use std::test::Fail;
 

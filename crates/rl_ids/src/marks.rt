@@ -1,7 +1,7 @@
 ghost use Rattle.std.specs.Prelude.{◌≡◌, ◌<◌, ◌++◌, ◌∷◌, List, ℕ, IfSome, MatchOption};
 ghost use Rattle.rl_ids.specs.Objects.{Lacks};
 
-/// What stands before the first of an ASCII mark in a text, and what behind it: `None` exactly where the
+/// What stands before the first of an ASCII mark in a text, and what after it: `None` exactly where the
 /// text has no such mark.
 #[tactic(auto, using(crate::proofs::Cuts::cut_found, crate::proofs::Cuts::cut_every))]
 pub(crate) fn cut_at(text: &str, mark: char) -> Option<(&str, &str)>

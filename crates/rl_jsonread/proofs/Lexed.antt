@@ -21,7 +21,7 @@ stays_inside true s x r k = refl
 stays_inside false true x r k = refl
 stays_inside false false x r k = refl
 
-passed : (x : ℕ) (xs : List ℕ) → is_plain x ≡ true → lex in_string (x ∷ xs) ≡ lex in_string xs
+pub passed : (x : ℕ) (xs : List ℕ) → is_plain x ≡ true → lex in_string (x ∷ xs) ≡ lex in_string xs
 unfolding lex
 passed x xs h =
     let none = or_parts ((x == 34) || (x == 92)) _ (not-true _ h) in
@@ -38,7 +38,7 @@ run : (xs : List ℕ) → lex in_string xs ≡ lex in_string (drop (prefix_len i
 run [] = refl
 run (x ∷ xs) = run_byte (is_plain x) x (prefix_len is_plain xs) xs refl (run xs)
 
-prepend-prepend : (a b : List ℕ) (r : Option (List ℕ)) → prepend a (prepend b r) ≡ prepend (a ++ b) r
+pub prepend-prepend : (a b : List ℕ) (r : Option (List ℕ)) → prepend a (prepend b r) ≡ prepend (a ++ b) r
 prepend-prepend a b None = refl
 prepend-prepend a b (Some s) = ap Some (sym (append_assoc a b s))
 
@@ -142,7 +142,7 @@ no_unicode x c e = go (cases_eq x 117)
     go (inl is) = absurd (none_there (ap short_escape (sym is) ∙ e))
     go (inr differs) = ne_eqb x 117 differs
 
-escape_lexed : (x : ℕ) (xs : List ℕ) → lex in_string (92 ∷ x ∷ xs) ≡ lex in_string xs
+pub escape_lexed : (x : ℕ) (xs : List ℕ) → lex in_string (92 ∷ x ∷ xs) ≡ lex in_string xs
 unfolding lex
 escape_lexed x xs = any (class x)
   where

@@ -4,3 +4,4 @@ pub mod Lanes
 pub mod Reading
 pub mod Begins
 pub mod Nested
+pub mod Units

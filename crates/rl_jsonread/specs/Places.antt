@@ -1,6 +1,8 @@
 -- What stands at a place of a text.
 use Rattle.std.specs.Prelude.{◌≡◌, ℕ, ◌+◌, ◌^◌, ◌<◌, ◌≤◌, List, ◌∷◌, ◌++◌, length, drop, true, false, Some}
 use Rattle.json.specs.Token.{Token}
+use Rattle.std.specs.Char.{digit_value}
+use Rattle.json.specs.Run.{is_plain}
 use Rattle.json.specs.Text.{content, plain, prepend}
 use Rattle.json.specs.Word.{ends_word}
 use Rattle.json.specs.Lex.{lex, between, in_string, Place, fresh, after_value, may_begin, begins_colon, punctuate}
@@ -23,6 +25,12 @@ pub record EndsAt (text : List ℕ) (at : ℕ) : Type 0 where
 pub record IsWordAt (text : List ℕ) (from : ℕ) (word : List ℕ) (to : ℕ) : Type 0 where
   pub whole : drop from text ≡ word ++ drop to text
   pub ends : EndsAt text to
+
+-- the byte b is a hexadecimal digit that stands for v
+pub record IsHex (b v : ℕ) : Type 0 where
+  pub digit : digit_value b ≡ v
+  pub below : v < 16
+  pub plain_byte : is_plain b ≡ true
 
 -- of the string whose content begins at `start`, what stands before a place is `found`
 pub record IsReadTo (text : List ℕ) (start at : ℕ) (found : List ℕ) : Type 0 where

@@ -3,7 +3,7 @@ ghost use Rattle.std.specs.Prelude.{◌≡◌, ◌<◌, ◌≤◌, [], ◌∷◌
 ghost use Rattle.json.specs.Token.{string};
 ghost use Rattle.json.specs.Lex.{lex, between, in_string, token, colon};
 ghost use Rattle.json.specs.Text.{content, plain, short_escape};
-ghost use Rattle.rl_jsonread.specs.Places.{Takes};
+ghost use Rattle.rl_jsonread.specs.Places.{IsHex, Takes};
 
 use crate::runs::{byte_at, is_at, plain_end};
 use std::alloc::Global;
@@ -57,7 +57,53 @@ fn run_at(text: &str, at: usize, found: &mut String) -> Option<usize>
     Some(stop)
 }
 
-// Takes the escape at a place, and answers where it ends. `None` where none stands there, or one by number.
+// What a hexadecimal digit in lower case stands for.
+#[tactic(auto, using(crate::proofs::Units::digit_is, crate::proofs::Units::letter_is))]
+fn hex(byte: u8) -> Option<u8>
+    ensures { IfSome result (λ v. IsHex byte v) }
+{
+    match byte {
+        b'0'..=b'9' => Some(byte - b'0'),
+        b'a'..=b'f' => Some(byte - b'a' + 10),
+        _ => None,
+    }
+}
+
+// Takes the escape by number at a place, as `\u001f`, and answers where it ends. `None` where none stands there, or
+// that of a character beyond ASCII.
+fn unit_at(text: &str, at: usize, found: &mut String) -> Option<usize>
+    ensures { IfSome result (λ end. Takes text.now at (string_bytes found.old) end (string_bytes found.new)) }
+{
+    if !is_at(text, at, b'\\') {
+        return None;
+    }
+    let mark = at + 1;
+    if !is_at(text, mark, b'u') {
+        return None;
+    }
+    let first = mark + 1;
+    if !is_at(text, first, b'0') {
+        return None;
+    }
+    let second = first + 1;
+    if !is_at(text, second, b'0') {
+        return None;
+    }
+    let third = second + 1;
+    let third_byte = byte_at(text, third)?;
+    let high = hex(third_byte)?;
+    let fourth = third + 1;
+    let fourth_byte = byte_at(text, fourth)?;
+    let low = hex(fourth_byte)?;
+    if high >= 8 {
+        return None;
+    }
+    push_ascii(found, high * 16 + low)?;
+    Some(fourth + 1)
+}
+
+// Takes the escape at a place, and answers where it ends. `None` where none stands there, or that of a character
+// beyond ASCII.
 fn escape_at(text: &str, at: usize, found: &mut String) -> Option<usize>
     ensures { IfSome result (λ end. Takes text.now at (string_bytes found.old) end (string_bytes found.new)) }
 {
@@ -65,6 +111,9 @@ fn escape_at(text: &str, at: usize, found: &mut String) -> Option<usize>
         return None;
     }
     let next = at + 1;
+    if is_at(text, next, b'u') {
+        return unit_at(text, at, found);
+    }
     let byte = byte_at(text, next)?;
     let meant = short(byte)?;
     push_ascii(found, meant)?;
@@ -105,7 +154,7 @@ fn content_at(alloc: Global, text: &str, start: usize) -> Option<(String, usize)
 }
 
 /// The string that stands at a place, and the place after it. `None` where none stands there, or it
-/// has an escape by number.
+/// has an escape of a character beyond ASCII.
 #[tactic(auto, using(crate::proofs::Lexed::string_lexed))]
 pub(crate) fn string_at(alloc: Global, text: &str, from: usize) -> Option<(String, usize)>
     ensures { IfSome result (λ r. lex between (drop from text.now) ≡ token (string (string_bytes r.0)) ∷ lex between (drop r.1 text.now)) }

@@ -28,7 +28,7 @@ fn is_left(alloc: Global, text: &str) -> bool {
 fn plain_texts_are_read_in_one_pass(rt: HostRuntime) -> Result<(), Fail> {
     let alloc = rt.alloc();
     let text =
-        "{\"b\":[{\"data\":\"a longer text, é, \\\"quoted\\\"\\n\"},[],{}],\"a\":[18446744073709551615,-9223372036854775807,-1]}";
+        "{\"b\":[{\"data\":\"a longer text, é, \\\"quoted\\\"\\n\\u001f\"},[],{}],\"a\":[18446744073709551615,-9223372036854775807,-1]}";
     assert!(rt; is_plain(alloc, text));
     assert!(rt; is_plain(alloc, "{\"a\":true,\"b\":false,\"c\":null,\"a\":0}"));
     Ok(())

@@ -1,12 +1,12 @@
 -- Small histories of a channel whose replies are known, with which the definitions are tried.
 use Rattle.std.specs.Prelude.{ℕ, ◌≡◌, true, false, List, [], ◌∷◌, Option, Some, None, codes}
-use Rattle.rl_types.specs.declared.channel.ChannelEvent.{ChannelEvent}
-use Rattle.rl_types.specs.declared.channel.ChannelEvent.TheVariants.{Put, Join, Read, MemberPage, Gone, Census}
-use Rattle.rl_types.specs.declared.channel.ChannelReply.{ChannelReply}
-use Rattle.rl_types.specs.declared.channel.ChannelReply.TheVariants as replies
-use Rattle.rl_types.specs.declared.channel.ReadReply.TheVariants.{NotRetained, Run}
-use Rattle.rl_types.specs.declared.channel.Verdict.TheVariants.{Done, Old}
-use Rattle.rl_types.specs.declared.channel.Outcome.TheVariants.{Taken, Refused}
+use Rattle.rl_events.specs.declared.channel.ChannelEvent.{ChannelEvent}
+use Rattle.rl_events.specs.declared.channel.ChannelEvent.TheVariants.{Put, Join, Read, MemberPage, Gone, Census}
+use Rattle.rl_events.specs.declared.channel.ChannelReply.{ChannelReply}
+use Rattle.rl_events.specs.declared.channel.ChannelReply.TheVariants as replies
+use Rattle.rl_events.specs.declared.channel.ReadReply.TheVariants.{NotRetained, Run}
+use Rattle.rl_events.specs.declared.channel.Verdict.TheVariants.{Done, Old}
+use Rattle.rl_events.specs.declared.channel.Outcome.TheVariants.{Taken, Refused}
 use Rattle.rl_types.specs.declared.messages.Given.TheVariants.{Ours}
 use Rattle.rl_types.specs.declared.messages.Body.TheVariants.{Presence}
 use Rattle.rl_types.specs.declared.presence.PresenceItem.{PresenceItem}

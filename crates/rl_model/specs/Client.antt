@@ -1,7 +1,7 @@
 -- What the client of a script does with its commands, in the plain reading.
 use Rattle.std.specs.Prelude.{ℕ, suc, true, false, List, [], ◌∷◌, ◌++◌, length, drop, Option, Some, None}
-use Rattle.rl_types.specs.declared.commands.Command.{Command}
-use Rattle.rl_types.specs.declared.commands.Command.TheVariants.{Attach, AttachAt, Publish}
+use Rattle.rl_runs.specs.declared.commands.Command.{Command}
+use Rattle.rl_runs.specs.declared.commands.Command.TheVariants.{Attach, AttachAt, Publish}
 use Rattle.rl_types.specs.declared.messages.Body.{Body}
 use Rattle.rl_types.specs.declared.messages.Body.TheVariants.{Messages}
 use Rattle.rl_types.specs.declared.messages.Given.{Given}

@@ -1,7 +1,7 @@
 -- Small scripts whose reports are known, with which the definitions are tried.
 use Rattle.std.specs.Prelude.{ℕ, ◌≡◌, List, [], ◌∷◌, ◌++◌, Result, Ok, Err, codes}
-use Rattle.rl_types.specs.declared.script.Line.{Line}
-use Rattle.rl_types.specs.declared.script.ScriptCause.TheVariants as cause
+use Rattle.rl_runs.specs.declared.script.Line.{Line}
+use Rattle.rl_runs.specs.declared.script.ScriptCause.TheVariants as cause
 use Rattle.rl_model.specs.World.{final}
 use Rattle.rl_model.specs.Findings.{findings}
 use Rattle.rl_model.specs.Report.{report}

@@ -1,16 +1,16 @@
 -- What a run shows of a world.
 use Rattle.std.specs.Prelude.{ℕ, ◌-◌, Bool, true, false, List, [], ◌∷◌, length, drop, Option, Some, None}
-use Rattle.rl_types.specs.declared.channel.ChannelEvent.{ChannelEvent}
+use Rattle.rl_events.specs.declared.channel.ChannelEvent.{ChannelEvent}
 use Rattle.rl_ids.specs.declared.serials.ChannelSerial.{ChannelSerial}
 use Rattle.rl_ids.specs.Forms.{conn_text}
 use Rattle.rl_types.specs.declared.messages.Given.{Given}
 use Rattle.rl_types.specs.declared.messages.Given.TheVariants.{Ours}
 use Rattle.rl_types.specs.declared.states.ChanState.{ChanState}
 use Rattle.rl_types.specs.declared.states.ChanState.TheVariants.{Initialized, Attached}
-use Rattle.rl_types.specs.declared.findings.ChannelFindings.{ChannelFindings}
-use Rattle.rl_types.specs.declared.findings.ChannelView.{ChannelView}
-use Rattle.rl_types.specs.declared.findings.ClientFindings.{ClientFindings}
-use Rattle.rl_types.specs.declared.findings.Findings.{Findings}
+use Rattle.rl_runs.specs.declared.findings.ChannelFindings.{ChannelFindings}
+use Rattle.rl_runs.specs.declared.findings.ChannelView.{ChannelView}
+use Rattle.rl_runs.specs.declared.findings.ClientFindings.{ClientFindings}
+use Rattle.rl_runs.specs.declared.findings.Findings.{Findings}
 use Rattle.rl_model.specs.declared.plain.Client.{Client}
 use Rattle.rl_model.specs.Verdict.{log, head}
 use Rattle.rl_model.specs.Objects.{objects_kept}

@@ -1,8 +1,8 @@
 -- The history of a channel: all events that it took, the latest first. So "the last .." is `find`, and each
 -- definition says what one more event makes of what was there before it. (This project's own.)
 use Rattle.std.specs.Prelude.{ℕ, max, List, [], ◌∷◌}
-use Rattle.rl_types.specs.declared.channel.ChannelEvent.{ChannelEvent}
-use Rattle.rl_types.specs.declared.channel.ChannelEvent.TheVariants.{Put, Gone, Tick}
+use Rattle.rl_events.specs.declared.channel.ChannelEvent.{ChannelEvent}
+use Rattle.rl_events.specs.declared.channel.ChannelEvent.TheVariants.{Put, Gone, Tick}
 
 -- the moment that an event was given
 abbrev pub moment_of : ChannelEvent → ℕ

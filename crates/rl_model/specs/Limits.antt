@@ -6,10 +6,10 @@ use Rattle.rl_types.specs.Weight.{option_len}
 use Rattle.rl_types.specs.declared.messages.Item.{Item}
 use Rattle.rl_types.specs.declared.messages.Body.{Body}
 use Rattle.rl_types.specs.declared.messages.Body.TheVariants.{Messages}
-use Rattle.rl_types.specs.declared.script.Line.{Line}
-use Rattle.rl_types.specs.declared.script.Line.TheVariants.{Act, Feed}
-use Rattle.rl_types.specs.declared.commands.Command.{Command}
-use Rattle.rl_types.specs.declared.commands.Command.TheVariants.{Attach, AttachAt, Publish}
+use Rattle.rl_runs.specs.declared.script.Line.{Line}
+use Rattle.rl_runs.specs.declared.script.Line.TheVariants.{Act, Feed}
+use Rattle.rl_runs.specs.declared.commands.Command.{Command}
+use Rattle.rl_runs.specs.declared.commands.Command.TheVariants.{Attach, AttachAt, Publish}
 
 -- a channel's name is not empty and not too long
 pub record IsChannelName (channel : List ℕ) : Type 0 where

@@ -1,10 +1,10 @@
 -- What a history leaves of a channel's log, of its ids and of its outcomes, and what one step of a channel makes
 -- of them.
 use Rattle.std.specs.Prelude.{ℕ, ◌+◌, ◌-◌, ◌||◌, if◌then◌else◌, ◌==◌, nat_lt, List, [], ◌∷◌, ◌++◌, length, take, drop, find, Option, Some, None, option_map}
-use Rattle.rl_types.specs.declared.channel.ChannelEvent.{ChannelEvent}
-use Rattle.rl_types.specs.declared.channel.Outcome.{Outcome}
-use Rattle.rl_types.specs.declared.channel.ReadReply.{ReadReply}
-use Rattle.rl_types.specs.declared.channel.ReadReply.TheVariants.{Run, NotRetained}
+use Rattle.rl_events.specs.declared.channel.ChannelEvent.{ChannelEvent}
+use Rattle.rl_events.specs.declared.channel.Outcome.{Outcome}
+use Rattle.rl_events.specs.declared.channel.ReadReply.{ReadReply}
+use Rattle.rl_events.specs.declared.channel.ReadReply.TheVariants.{Run, NotRetained}
 use Rattle.rl_types.specs.declared.messages.Entry.{Entry}
 use Rattle.rl_numbers.specs.declared.limits.TheConstants.{MAX_REMEMBERED}
 use Rattle.rl_model.specs.Verdict.{Added, has_given, added, decisions, kept, log}

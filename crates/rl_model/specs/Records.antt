@@ -6,9 +6,9 @@ use Rattle.rl_types.specs.declared.messages.Given.{Given}
 use Rattle.rl_types.specs.declared.messages.Given.TheVariants.{Ours}
 use Rattle.rl_types.specs.declared.states.ChanState.{ChanState}
 use Rattle.rl_types.specs.declared.states.ChanState.TheVariants.{Attached}
-use Rattle.rl_types.specs.declared.findings.Cause.{Cause}
-use Rattle.rl_types.specs.declared.findings.Cause.TheVariants.{Opened, NotRetained, Recovered}
-use Rattle.rl_types.specs.declared.findings.Segment.{Segment}
+use Rattle.rl_runs.specs.declared.findings.Cause.{Cause}
+use Rattle.rl_runs.specs.declared.findings.Cause.TheVariants.{Opened, NotRetained, Recovered}
+use Rattle.rl_runs.specs.declared.findings.Segment.{Segment}
 
 -- the epoch of a script
 abbrev pub the_epoch : ℕ

@@ -1,11 +1,11 @@
 -- What a channel answers to each event, from its whole history.
 use Rattle.std.specs.Prelude.{ℕ, ◌+◌, Bool, false, ◌&&◌, ◌||◌, not, if◌then◌else◌, ◌==◌, nat_lt, List, length, take, drop, ◌∷◌, Option, Some, option_map}
-use Rattle.rl_types.specs.declared.channel.ChannelEvent.{ChannelEvent}
-use Rattle.rl_types.specs.declared.channel.ChannelEvent.TheVariants.{Put, Join, Read, MemberPage, ObjectPage, Gone, Tick, Census}
-use Rattle.rl_types.specs.declared.channel.ChannelReply.{ChannelReply}
-use Rattle.rl_types.specs.declared.channel.ChannelReply.TheVariants as replies
-use Rattle.rl_types.specs.declared.channel.ReadReply.{ReadReply}
-use Rattle.rl_types.specs.declared.channel.ReadReply.TheVariants.{Run, NotRetained}
+use Rattle.rl_events.specs.declared.channel.ChannelEvent.{ChannelEvent}
+use Rattle.rl_events.specs.declared.channel.ChannelEvent.TheVariants.{Put, Join, Read, MemberPage, ObjectPage, Gone, Tick, Census}
+use Rattle.rl_events.specs.declared.channel.ChannelReply.{ChannelReply}
+use Rattle.rl_events.specs.declared.channel.ChannelReply.TheVariants as replies
+use Rattle.rl_events.specs.declared.channel.ReadReply.{ReadReply}
+use Rattle.rl_events.specs.declared.channel.ReadReply.TheVariants.{Run, NotRetained}
 use Rattle.rl_types.specs.declared.messages.Entry.{Entry}
 use Rattle.rl_types.specs.declared.messages.Given.{Given}
 use Rattle.rl_types.specs.declared.messages.Given.TheVariants.{Ours}
@@ -15,7 +15,7 @@ use Rattle.rl_model.specs.Verdict.{decisions, decided, verdict, log, head}
 use Rattle.rl_model.specs.Members.{members, page_items, is_last_page}
 use Rattle.rl_model.specs.Window.{first, is_retained}
 
--- RESUMED (RTL12): a serial was given, it is of this run's epoch, and its place is retained
+-- RESUMED (TR3c): a serial was given, it is of this run's epoch, and its place is retained
 abbrev pub is_resumed : ℕ → List ℕ → List ChannelEvent → Option Given → Bool
 is_resumed epoch site past (Some (Ours serial)) = serial.epoch == epoch && is_retained site past serial.place
 is_resumed epoch site past _ = false

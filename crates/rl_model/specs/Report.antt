@@ -25,15 +25,15 @@ use Rattle.rl_types.specs.declared.messages.Entry.{Entry}
 use Rattle.rl_types.specs.declared.messages.Given.{Given}
 use Rattle.rl_types.specs.declared.messages.Given.TheVariants.{Ours, Other}
 use Rattle.rl_types.specs.States.{conn_word, chan_word}
-use Rattle.rl_types.specs.declared.findings.Answer.{Answer}
-use Rattle.rl_types.specs.declared.findings.Answer.TheVariants.{Ack, Nack}
-use Rattle.rl_types.specs.declared.findings.Cause.{Cause}
-use Rattle.rl_types.specs.declared.findings.Cause.TheVariants.{Opened, NotRetained, Recovered, Moved, Jump}
-use Rattle.rl_types.specs.declared.findings.Segment.{Segment}
-use Rattle.rl_types.specs.declared.findings.ChannelFindings.{ChannelFindings}
-use Rattle.rl_types.specs.declared.findings.ChannelView.{ChannelView}
-use Rattle.rl_types.specs.declared.findings.ClientFindings.{ClientFindings}
-use Rattle.rl_types.specs.declared.findings.Findings.{Findings}
+use Rattle.rl_runs.specs.declared.findings.Answer.{Answer}
+use Rattle.rl_runs.specs.declared.findings.Answer.TheVariants.{Ack, Nack}
+use Rattle.rl_runs.specs.declared.findings.Cause.{Cause}
+use Rattle.rl_runs.specs.declared.findings.Cause.TheVariants.{Opened, NotRetained, Recovered, Moved, Jump}
+use Rattle.rl_runs.specs.declared.findings.Segment.{Segment}
+use Rattle.rl_runs.specs.declared.findings.ChannelFindings.{ChannelFindings}
+use Rattle.rl_runs.specs.declared.findings.ChannelView.{ChannelView}
+use Rattle.rl_runs.specs.declared.findings.ClientFindings.{ClientFindings}
+use Rattle.rl_runs.specs.declared.findings.Findings.{Findings}
 
 -- words with a space before each
 abbrev pub spaced : List (List ℕ) → List ℕ

@@ -1,15 +1,15 @@
 -- The grammar of scripts: what a line says, and which line is the first that is refused, and why.
 -- (This project's own.)
 use Rattle.std.specs.Prelude.{ℕ, suc, ◌+◌, ◌-◌, ◌*◌, slice_get, Bool, true, false, ◌&&◌, ◌||◌, not, if◌then◌else◌, ◌==◌, nat_lt, nat_le, List, [], ◌∷◌, ◌++◌, length, count_by, sum_by, filter_map, is_none, Option, Some, None, Result, Ok, Err, bytes_eq, codes}
-use Rattle.rl_numbers.specs.declared.limits.TheConstants.{MAX_CLIENTS, MAX_COUNT, MAX_FED_TEXT, MAX_NAME, MAX_PUBLISHED, MAX_PUT, MAX_SCRIPT_LINES, MAX_SCRIPT_SIZE, MAX_TEXT, MAX_WORD}
+use Rattle.rl_numbers.specs.declared.limits.TheConstants.{MAX_CLIENTS, MAX_COUNT, MAX_FED_TEXT, MAX_GIVEN, MAX_NAME, MAX_PUBLISHED, MAX_PUT, MAX_SCRIPT_LINES, MAX_SCRIPT_SIZE, MAX_TEXT, MAX_WORD}
 use Rattle.std.specs.List.{list_all, list_any, slice_split, after_first}
 use Rattle.std.specs.Str.{is_utf8}
 use Rattle.std.specs.Str.Lines.{lines}
-use Rattle.rl_types.specs.declared.script.Line.{Line}
-use Rattle.rl_types.specs.declared.script.Line.TheVariants.{Client, Open, Cut, Act, Feed, Settle}
-use Rattle.rl_types.specs.declared.commands.Command.TheVariants.{Attach, AttachAt, Publish}
-use Rattle.rl_types.specs.declared.script.ScriptCause.{ScriptCause}
-use Rattle.rl_types.specs.declared.script.ScriptCause.TheVariants as cause
+use Rattle.rl_runs.specs.declared.script.Line.{Line}
+use Rattle.rl_runs.specs.declared.script.Line.TheVariants.{Client, Open, Cut, Act, Feed, Settle}
+use Rattle.rl_runs.specs.declared.commands.Command.TheVariants.{Attach, AttachAt, Publish}
+use Rattle.rl_runs.specs.declared.script.ScriptCause.{ScriptCause}
+use Rattle.rl_runs.specs.declared.script.ScriptCause.TheVariants as cause
 use Rattle.rl_types.specs.declared.messages.Item.{Item}
 
 -- LIMITS
@@ -122,8 +122,8 @@ attach_line _ = Err cause.Count
 abbrev pub attach_at_line : List (List ℕ) → Said
 attach_at_line (name ∷ channel ∷ epoch ∷ place ∷ []) =
     unless (is_name name) cause.Name (unless (is_channel channel) cause.Channel
-    (with_number (number_within 0 18446744073709551615 epoch) (λ e.
-    with_number (number_within 0 18446744073709551615 place) (λ p.
+    (with_number (number_within 0 MAX_GIVEN epoch) (λ e.
+    with_number (number_within 0 MAX_GIVEN place) (λ p.
     says (Act name (AttachAt channel (record { epoch = e; place = p })))))))
 attach_at_line _ = Err cause.Count
 

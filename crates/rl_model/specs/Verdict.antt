@@ -3,12 +3,12 @@ use Rattle.std.specs.Prelude.{ℕ, suc, ◌+◌, ◌-◌, Bool, true, false, ◌
 use Rattle.std.specs.List.{list_any}
 use Rattle.rl_numbers.specs.declared.limits.TheConstants.{MAX_MESSAGE_SIZE, MAX_PLACE, MAX_REMEMBERED}
 use Rattle.rl_numbers.specs.declared.codes.TheConstants.{BAD_ACTION, BAD_IDS, LOG_FULL, MEMBER_LIMIT, NO_CLIENT_ID, POOL_LIMIT, TOO_LONG}
-use Rattle.rl_types.specs.declared.channel.ChannelEvent.{ChannelEvent}
-use Rattle.rl_types.specs.declared.channel.ChannelEvent.TheVariants.{Put, Gone}
-use Rattle.rl_types.specs.declared.channel.Verdict.{Verdict}
-use Rattle.rl_types.specs.declared.channel.Verdict.TheVariants.{Done, Old}
-use Rattle.rl_types.specs.declared.channel.Outcome.{Outcome}
-use Rattle.rl_types.specs.declared.channel.Outcome.TheVariants.{Taken, Refused}
+use Rattle.rl_events.specs.declared.channel.ChannelEvent.{ChannelEvent}
+use Rattle.rl_events.specs.declared.channel.ChannelEvent.TheVariants.{Put, Gone}
+use Rattle.rl_events.specs.declared.channel.Verdict.{Verdict}
+use Rattle.rl_events.specs.declared.channel.Verdict.TheVariants.{Done, Old}
+use Rattle.rl_events.specs.declared.channel.Outcome.{Outcome}
+use Rattle.rl_events.specs.declared.channel.Outcome.TheVariants.{Taken, Refused}
 use Rattle.rl_types.specs.declared.messages.Entry.{Entry}
 use Rattle.rl_types.specs.declared.messages.Body.{Body}
 use Rattle.rl_types.specs.declared.messages.Body.TheVariants.{Messages, Presence, Objects}
@@ -35,7 +35,7 @@ abbrev pub entries : List Decision → List Entry
 entries [] = []
 entries (decision ∷ before) = entries before ++ option_to_list decision.entry
 
--- OUTCOMES THAT ARE KEPT (RTN19a2)
+-- OUTCOMES THAT ARE KEPT, for what is sent again after a drop (RTN19a)
 
 abbrev pub kept_at : ℕ → ChannelEvent → Option Verdict → Option (ℕ × Outcome) → Option (ℕ × Outcome)
 kept_at conn (Put c serial body now) (Some (Done outcome)) earlier =
@@ -49,7 +49,7 @@ abbrev pub kept : ℕ → List Decision → Option (ℕ × Outcome)
 kept conn [] = None
 kept conn (decision ∷ before) = kept_at conn decision.event decision.verdict (kept conn before)
 
--- IDS THAT ARE REMEMBERED (RSL1k2)
+-- IDS THAT ARE REMEMBERED (RSL1k)
 
 abbrev pub given_id_of : ChannelEvent → Option (List ℕ)
 given_id_of (Put conn serial body now) = given_id body

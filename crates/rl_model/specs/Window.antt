@@ -1,9 +1,8 @@
--- The window: which places of the log are retained. (This project's own; a service keeps a channel's messages
--- for two minutes, RTN15g.)
+-- The window: which places of the log are retained. (This project's own.)
 use Rattle.std.specs.Prelude.{ℕ, suc, ◌+◌, ◌-◌, Bool, true, false, ◌&&◌, if◌then◌else◌, nat_lt, nat_le, List, [], ◌∷◌, length, drop, sum_by}
 use Rattle.std.specs.List.{list_all}
-use Rattle.rl_types.specs.declared.channel.ChannelEvent.{ChannelEvent}
-use Rattle.rl_types.specs.declared.channel.ChannelEvent.TheVariants.{Tick}
+use Rattle.rl_events.specs.declared.channel.ChannelEvent.{ChannelEvent}
+use Rattle.rl_events.specs.declared.channel.ChannelEvent.TheVariants.{Tick}
 use Rattle.rl_types.specs.declared.messages.Entry.{Entry}
 use Rattle.rl_types.specs.Weight.{body_weight}
 use Rattle.rl_numbers.specs.declared.limits.TheConstants.{MAX_ENTRY_AGE, MAX_WINDOW_ENTRIES, MAX_WINDOW_WEIGHT}

@@ -2,20 +2,20 @@
 -- reading of scripts with one client and one channel, in which every event of the channel is at moment 0.
 -- (This project's own.)
 use Rattle.std.specs.Prelude.{ℕ, zero, suc, ◌+◌, List, [], ◌∷◌, ◌++◌, fold, Option, Some, None}
-use Rattle.rl_types.specs.declared.script.Line.{Line}
-use Rattle.rl_types.specs.declared.script.Line.TheVariants as lines
-use Rattle.rl_types.specs.declared.channel.ChannelEvent.{ChannelEvent}
-use Rattle.rl_types.specs.declared.channel.ChannelEvent.TheVariants.{Put, Join}
-use Rattle.rl_types.specs.declared.channel.Verdict.{Verdict}
-use Rattle.rl_types.specs.declared.channel.Verdict.TheVariants.{Done, Old}
-use Rattle.rl_types.specs.declared.channel.Outcome.TheVariants.{Taken, Refused}
+use Rattle.rl_runs.specs.declared.script.Line.{Line}
+use Rattle.rl_runs.specs.declared.script.Line.TheVariants as lines
+use Rattle.rl_events.specs.declared.channel.ChannelEvent.{ChannelEvent}
+use Rattle.rl_events.specs.declared.channel.ChannelEvent.TheVariants.{Put, Join}
+use Rattle.rl_events.specs.declared.channel.Verdict.{Verdict}
+use Rattle.rl_events.specs.declared.channel.Verdict.TheVariants.{Done, Old}
+use Rattle.rl_events.specs.declared.channel.Outcome.TheVariants.{Taken, Refused}
 use Rattle.rl_types.specs.declared.messages.Body.{Body}
 use Rattle.rl_types.specs.declared.messages.Body.TheVariants.{Messages}
 use Rattle.rl_types.specs.declared.states.ConnState.{ConnState}
 use Rattle.rl_types.specs.declared.states.ConnState.TheVariants as conn
 use Rattle.rl_types.specs.declared.states.ChanState.TheVariants as chan
-use Rattle.rl_types.specs.declared.findings.Answer.{Answer}
-use Rattle.rl_types.specs.declared.findings.Answer.TheVariants.{Ack, Nack}
+use Rattle.rl_runs.specs.declared.findings.Answer.{Answer}
+use Rattle.rl_runs.specs.declared.findings.Answer.TheVariants.{Ack, Nack}
 use Rattle.rl_ids.specs.Forms.{conn_text}
 use Rattle.rl_model.specs.declared.plain.Client.{Client}
 use Rattle.rl_model.specs.declared.plain.Sent.{Sent}

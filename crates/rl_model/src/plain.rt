@@ -1,6 +1,7 @@
 //! Plain data of the plain reading of a script: its client, and what the client has sent.
 use rl_ids::{List, Text};
-use rl_types::{Answer, Body, ChanState, ConnState, Given, Segment};
+use rl_runs::{Answer, Segment};
+use rl_types::{Body, ChanState, ConnState, Given};
 
 /// What a client has sent and the service has not served yet.
 #[derive(Debug, Drop)]

@@ -41,7 +41,7 @@ pub const SERIAL_GAP: u32 = 121;
 pub const SERIAL_OLD: u32 = 122;
 /// Another transport took the connection up, or the connection is forgotten.
 pub const SUPERSEDED: u32 = 123;
-/// A session fell back behind what the channel retains.
+/// A session fell back past what the channel retains.
 pub const LAGGED: u32 = 124;
 /// The service has as many connections as it may have.
 pub const CONNECTION_LIMIT: u32 = 125;

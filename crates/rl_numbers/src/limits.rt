@@ -175,6 +175,9 @@ pub const MAX_SCRIPT_SIZE: usize = 16_777_216;
 /// The most lines of a script.
 pub const MAX_SCRIPT_LINES: usize = 100_000;
 
+/// The greatest epoch and the greatest place that a script can give.
+pub const MAX_GIVEN: u64 = 18_446_744_073_709_551_615;
+
 /// The most clients of a script.
 pub const MAX_CLIENTS: usize = 64;
 

@@ -2,8 +2,8 @@
 use Rattle.std.proofs.Common.{◌≡◌, List, [], ◌∷◌, ◌++◌, refl, sym, ◌∙◌, ap, true, false, arith}
 use Rattle.std.specs.Prelude.{Bool, ◌&&◌, ◌||◌, not, nat_le, if◌then◌else◌}
 use Rattle.std.proofs.lemmas.List.{append-nil}
-use Rattle.rl_types.specs.declared.channel.ChannelReply.{ChannelReply}
-use Rattle.rl_types.specs.declared.channel.ChannelReply.TheVariants.{Put, Joined, Read, Members, Objects, Gone, Ticked, Census}
+use Rattle.rl_events.specs.declared.channel.ChannelReply.{ChannelReply}
+use Rattle.rl_events.specs.declared.channel.ChannelReply.TheVariants.{Put, Joined, Read, Members, Objects, Gone, Ticked, Census}
 use Rattle.rl_types.specs.declared.frames.Frame.{Frame}
 use Rattle.rl_pages.specs.State.{Sequences, page_absorbed, is_complete, end_frames, end_pages}
 use Rattle.rl_pages.specs.History.{Asked, Step, Absorbs, Ends, begun, have_ended, all_there, after, ends_sent, EndsOnce, EndsForGood}

@@ -6,10 +6,10 @@ use Rattle.std.proofs.lemmas.List.{append-nil, append_assoc}
 use Rattle.rl_ids.specs.declared.members.MemberKey.{MemberKey}
 use Rattle.rl_ids.specs.declared.objects.ObjectId.{ObjectId}
 use Rattle.rl_numbers.specs.declared.limits.TheConstants.{PAGE_MEMBERS, PAGE_OBJECTS}
-use Rattle.rl_types.specs.declared.channel.ChannelEvent.{ChannelEvent}
-use Rattle.rl_types.specs.declared.channel.ChannelEvent.TheVariants.{MemberPage, ObjectPage}
-use Rattle.rl_types.specs.declared.channel.ChannelReply.{ChannelReply}
-use Rattle.rl_types.specs.declared.channel.ChannelReply.TheVariants.{Put, Joined, Read, Members, Objects, Gone, Ticked, Census}
+use Rattle.rl_events.specs.declared.channel.ChannelEvent.{ChannelEvent}
+use Rattle.rl_events.specs.declared.channel.ChannelEvent.TheVariants.{MemberPage, ObjectPage}
+use Rattle.rl_events.specs.declared.channel.ChannelReply.{ChannelReply}
+use Rattle.rl_events.specs.declared.channel.ChannelReply.TheVariants.{Put, Joined, Read, Members, Objects, Gone, Ticked, Census}
 use Rattle.rl_types.specs.declared.frames.Cursor.{Cursor}
 use Rattle.rl_types.specs.declared.frames.Frame.{Frame}
 use Rattle.rl_types.specs.declared.objects.ObjectState.{ObjectState}

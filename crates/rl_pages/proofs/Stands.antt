@@ -4,8 +4,8 @@ use Rattle.std.specs.Prelude.{Bool, ◌&&◌, ◌||◌, not, min, Option, Some, 
 use Rattle.std.specs.List.{filter_map}
 use Rattle.std.proofs.lemmas.List.{append-nil, reverse-append}
 use Rattle.std.proofs.lemmas.List.Elements.{filter_map-append}
-use Rattle.rl_types.specs.declared.channel.ChannelReply.{ChannelReply}
-use Rattle.rl_types.specs.declared.channel.ChannelReply.TheVariants.{Put, Joined, Read, Members, Objects, Gone, Ticked, Census}
+use Rattle.rl_events.specs.declared.channel.ChannelReply.{ChannelReply}
+use Rattle.rl_events.specs.declared.channel.ChannelReply.TheVariants.{Put, Joined, Read, Members, Objects, Gone, Ticked, Census}
 use Rattle.rl_types.specs.declared.objects.ObjectState.{ObjectState}
 use Rattle.rl_types.specs.declared.presence.PresenceItem.{PresenceItem}
 use Rattle.rl_pages.specs.Pages.{Page, cursor_after, are_there, are_reached}

@@ -3,9 +3,9 @@
 use Rattle.std.specs.Prelude.{ℕ, ◌≡◌, true, false, List, [], ◌∷◌, Some, None, codes}
 use Rattle.rl_ids.specs.declared.members.MemberKey.{MemberKey}
 use Rattle.rl_ids.specs.declared.objects.ObjectId.TheVariants.{Root}
-use Rattle.rl_types.specs.declared.channel.ChannelEvent.TheVariants.{MemberPage, ObjectPage}
-use Rattle.rl_types.specs.declared.channel.ChannelReply.{ChannelReply}
-use Rattle.rl_types.specs.declared.channel.ChannelReply.TheVariants.{Members, Objects}
+use Rattle.rl_events.specs.declared.channel.ChannelEvent.TheVariants.{MemberPage, ObjectPage}
+use Rattle.rl_events.specs.declared.channel.ChannelReply.{ChannelReply}
+use Rattle.rl_events.specs.declared.channel.ChannelReply.TheVariants.{Members, Objects}
 use Rattle.rl_types.specs.declared.frames.Frame.TheVariants.{Sync, ObjectSync}
 use Rattle.rl_types.specs.declared.objects.ObjectState.{ObjectState}
 use Rattle.rl_types.specs.declared.objects.ObjectBody.TheVariants.{Map}

@@ -1,8 +1,8 @@
 -- All that a session sends of its page sequences, in order.
 use Rattle.std.specs.Prelude.{ℕ, ◌+◌, ◌-◌, ◌^◌, ◌≡◌, ⊤, min, Bool, true, false, not, ◌&&◌, None, List, [], ◌∷◌, ◌++◌, if◌then◌else◌}
 use Rattle.std.specs.Option.{option_to_list}
-use Rattle.rl_types.specs.declared.channel.ChannelReply.{ChannelReply}
-use Rattle.rl_types.specs.declared.channel.ChannelReply.TheVariants.{Members, Objects}
+use Rattle.rl_events.specs.declared.channel.ChannelReply.{ChannelReply}
+use Rattle.rl_events.specs.declared.channel.ChannelReply.TheVariants.{Members, Objects}
 use Rattle.rl_types.specs.declared.frames.Cursor.{Cursor}
 use Rattle.rl_types.specs.declared.frames.Frame.{Frame}
 use Rattle.rl_types.specs.declared.objects.ObjectState.{ObjectState}

@@ -1,14 +1,15 @@
 ghost use Rattle.std.specs.Prelude.{◌≡◌, IfOk, OnOk, OnErr, true, None, Some, map, []};
 ghost use Rattle.std.specs.List.{last_or};
-ghost use Rattle.rl_types.specs.declared.channel.ChannelReply.TheVariants as replies;
+ghost use Rattle.rl_events.specs.declared.channel.ChannelReply.TheVariants as replies;
 ghost use Rattle.rl_pages.specs.Frames as frames;
 ghost use Rattle.rl_pages.specs.State as state;
 
 use crate::frames::{end_at, page_at};
 use crate::progress::Progress;
+use rl_events::{ChannelEvent, ChannelReply};
 use rl_ids::{Copied, List, MemberKey, NoMemory, ObjectId, Place, Text};
 use rl_numbers::limits::{PAGE_MEMBERS, PAGE_OBJECTS};
-use rl_types::{ChannelEvent, ChannelReply, Frame, ObjectState, PresenceItem};
+use rl_types::{Frame, ObjectState, PresenceItem};
 use std::alloc::Global;
 use std::marker::Model;
 

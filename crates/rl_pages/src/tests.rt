@@ -1,9 +1,8 @@
 // Syncs, page by page.
 use crate::Pages;
+use rl_events::{ChannelEvent, ChannelReply};
 use rl_ids::{Copied, List, Moment, NoMemory, ObjectId, Place, Text};
-use rl_types::{
-    ChannelEvent, ChannelReply, Frame, ObjectBody, ObjectState, PresenceAction, PresenceItem,
-};
+use rl_types::{Frame, ObjectBody, ObjectState, PresenceAction, PresenceItem};
 use std::alloc::Global;
 
 // One member.

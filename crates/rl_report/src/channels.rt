@@ -5,7 +5,8 @@ ghost use Rattle.rl_model.specs.Report.{channel_lines, entry_line};
 use crate::lists::{Printed, push_all};
 use crate::words::{push_conn, push_number, push_number_or_dash, push_str, push_word};
 use rl_ids::{Blob, Epoch, NoMemory};
-use rl_types::{ChannelFindings, Entry};
+use rl_runs::ChannelFindings;
+use rl_types::Entry;
 
 impl Printed for Entry {
     ghost text_of = { λ epoch. entry_line };

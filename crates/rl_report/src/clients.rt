@@ -9,7 +9,8 @@ use crate::words::{
     push_yes_or_no,
 };
 use rl_ids::{Blob, ChannelSerial, Epoch, NoMemory};
-use rl_types::{Answer, ChannelView, ClientFindings, ObjectState, PresenceItem};
+use rl_runs::{Answer, ChannelView, ClientFindings};
+use rl_types::{ObjectState, PresenceItem};
 
 impl Printed for Answer {
     ghost text_of = { λ epoch. answer_line };

@@ -5,7 +5,7 @@ ghost use Rattle.std.specs.Prelude.{◌≡◌, IfOk};
 ghost use Rattle.rl_model.specs.Report.{report};
 
 use rl_ids::{Blob, NoMemory};
-use rl_types::Findings;
+use rl_runs::Findings;
 use std::alloc::Global;
 
 mod bodies;

@@ -5,7 +5,8 @@ ghost use Rattle.rl_model.specs.Report.{cause_words, given_word, got_line, segme
 use crate::lists::{Printed, push_all};
 use crate::words::{push_number, push_str, push_word};
 use rl_ids::{Blob, ChannelSerial, Epoch, NoMemory, Place};
-use rl_types::{Body, Cause, Given, Segment};
+use rl_runs::{Cause, Segment};
+use rl_types::{Body, Given};
 
 // Its place, or `other` where it is of another run.
 impl Printed for ChannelSerial {

@@ -8,7 +8,7 @@ use Rattle.std.proofs.lemmas.List.Sums.{sum_by-append}
 use Rattle.std.proofs.lemmas.Slice.Eq.{bytes_eq-Decides}
 use Rattle.std.proofs.lemmas.Bool.Decides.{nat_tests}
 use Rattle.rl_numbers.specs.declared.limits.TheConstants.{MAX_PUBLISHED, MAX_PUT}
-use Rattle.rl_types.specs.declared.script.Line.{Line}
+use Rattle.rl_runs.specs.declared.script.Line.{Line}
 use Rattle.rl_model.specs.Script.{is_publish, fed_by, is_settle, name_declared, channel_named, declared_names, channels_named, published, fed, ends_settled, in_scope, is_first_client, is_only_channel, is_cut}
 use Rattle.rl_scriptlang.specs.Seen.{IsSeen, is_kept, kept_after, put_by}
 

@@ -5,12 +5,12 @@ use Rattle.std.specs.List.{AllByRecursion, slice_split, list_all}
 use Rattle.std.specs.Str.{is_utf8}
 use Rattle.std.specs.Str.Lines.{lines}
 use Rattle.std.proofs.lemmas.Bool.Decides.{nat_tests}
-use Rattle.rl_numbers.specs.declared.limits.TheConstants.{MAX_COUNT, MAX_FED_TEXT, MAX_TEXT, MAX_WORD}
-use Rattle.rl_types.specs.declared.script.Line.{Line}
-use Rattle.rl_types.specs.declared.script.Line.TheVariants.{Client, Open, Cut, Act, Feed, Settle}
-use Rattle.rl_types.specs.declared.commands.Command.TheVariants.{Attach, AttachAt, Publish}
-use Rattle.rl_types.specs.declared.script.ScriptCause.{ScriptCause}
-use Rattle.rl_types.specs.declared.script.ScriptCause.TheVariants as cause
+use Rattle.rl_numbers.specs.declared.limits.TheConstants.{MAX_COUNT, MAX_FED_TEXT, MAX_GIVEN, MAX_TEXT, MAX_WORD}
+use Rattle.rl_runs.specs.declared.script.Line.{Line}
+use Rattle.rl_runs.specs.declared.script.Line.TheVariants.{Client, Open, Cut, Act, Feed, Settle}
+use Rattle.rl_runs.specs.declared.commands.Command.TheVariants.{Attach, AttachAt, Publish}
+use Rattle.rl_runs.specs.declared.script.ScriptCause.{ScriptCause}
+use Rattle.rl_runs.specs.declared.script.ScriptCause.TheVariants as cause
 use Rattle.rl_model.specs.Limits.{IsChannelName, IsSmallLine, AreSmallLines}
 use Rattle.rl_model.specs.Script.{Said, Refusal, unless, with_number, says, is_between, is_name, is_channel, is_channel_byte, is_blank, is_space, number_within, rest_of_line, client_line, open_line, cut_line, attach_line, attach_at_line, pub_line, feed_line, settle_line, line_by_word, line_of, in_order, in_scope, placed, line_after, with_line, go_on, script_from, script_of}
 
@@ -69,11 +69,11 @@ small_attach_at (name ∷ []) = tt
 small_attach_at (name ∷ channel ∷ []) = tt
 small_attach_at (name ∷ channel ∷ epoch ∷ []) = tt
 small_attach_at (name ∷ channel ∷ epoch ∷ place ∷ []) =
-    let numbers : Said = with_number (number_within 0 18446744073709551615 epoch) (λ e. with_number (number_within 0 18446744073709551615 place) (λ p. says (Act name (AttachAt channel (record { epoch = e; place = p }))))) in
+    let numbers : Said = with_number (number_within 0 MAX_GIVEN epoch) (λ e. with_number (number_within 0 MAX_GIVEN place) (λ p. says (Act name (AttachAt channel (record { epoch = e; place = p }))))) in
     if_so (is_name name) cause.Name (unless (is_channel channel) cause.Channel numbers)
     (λ is. if_so (is_channel channel) cause.Channel numbers (λ named.
-    with_any (number_within 0 18446744073709551615 epoch) (λ e. with_number (number_within 0 18446744073709551615 place) (λ p. says (Act name (AttachAt channel (record { epoch = e; place = p })))))
-    (λ e. with_any (number_within 0 18446744073709551615 place) (λ p. says (Act name (AttachAt channel (record { epoch = e; place = p })))) (λ p. channel_name channel named))))
+    with_any (number_within 0 MAX_GIVEN epoch) (λ e. with_number (number_within 0 MAX_GIVEN place) (λ p. says (Act name (AttachAt channel (record { epoch = e; place = p })))))
+    (λ e. with_any (number_within 0 MAX_GIVEN place) (λ p. says (Act name (AttachAt channel (record { epoch = e; place = p })))) (λ p. channel_name channel named))))
 small_attach_at (name ∷ channel ∷ epoch ∷ place ∷ next ∷ tokens) = tt
 
 small_pub : (text : List ℕ) (tokens : List (List ℕ)) → SaysSmall (pub_line text tokens)

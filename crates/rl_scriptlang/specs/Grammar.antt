@@ -3,11 +3,11 @@ use Rattle.std.specs.Prelude.{◌≡◌, ℕ, ⊤, true, false, if◌then◌else
 use Rattle.std.specs.Borrow.{Bor}
 use Rattle.std.specs.List.{slice_split}
 use Rattle.rl_numbers.specs.declared.limits.TheConstants.{MAX_TEXT}
-use Rattle.rl_types.specs.declared.script.ScriptCause.{ScriptCause}
+use Rattle.rl_runs.specs.declared.script.ScriptCause.{ScriptCause}
 use Rattle.std.specs.Str.{is_utf8}
-use Rattle.rl_types.specs.declared.script.ScriptCause.TheVariants as cause
-use Rattle.rl_types.specs.declared.commands.Command.{Command}
-use Rattle.rl_types.specs.declared.commands.Command.TheVariants.{Publish}
+use Rattle.rl_runs.specs.declared.script.ScriptCause.TheVariants as cause
+use Rattle.rl_runs.specs.declared.commands.Command.{Command}
+use Rattle.rl_runs.specs.declared.commands.Command.TheVariants.{Publish}
 use Rattle.rl_model.specs.Script.{is_space, is_channel, is_between, one_item}
 use Rattle.rl_scriptlang.specs.declared.fault.LineFault.{LineFault}
 use Rattle.rl_scriptlang.specs.declared.fault.LineFault.TheVariants.{Cause, NoMemory}

@@ -1,7 +1,7 @@
 -- What reading a script answers.
 use Rattle.std.specs.Prelude.{◌≡◌, ⊤, List, Result, Ok, Err}
-use Rattle.rl_types.specs.declared.script.Line.{Line}
-use Rattle.rl_types.specs.declared.script.Script.{Script}
+use Rattle.rl_runs.specs.declared.script.Line.{Line}
+use Rattle.rl_runs.specs.declared.script.Script.{Script}
 use Rattle.rl_model.specs.Script.{Refusal}
 use Rattle.rl_scriptlang.specs.declared.fault.ScriptFault.{ScriptFault}
 use Rattle.rl_scriptlang.specs.declared.fault.ScriptFault.TheVariants.{Refused, NoMemory}

@@ -2,8 +2,8 @@
 use Rattle.std.specs.Prelude.{◌≡◌, ◌≤◌, ◌+◌, ℕ, Bool, true, if◌then◌else◌, List, Option, Some, None, Result, Ok, Err, option_to_list, bytes_eq}
 use Rattle.std.specs.List.{list_all}
 use Rattle.rl_numbers.specs.declared.limits.TheConstants.{MAX_PUT}
-use Rattle.rl_types.specs.declared.script.Line.{Line}
-use Rattle.rl_types.specs.declared.script.ScriptCause.{ScriptCause}
+use Rattle.rl_runs.specs.declared.script.Line.{Line}
+use Rattle.rl_runs.specs.declared.script.ScriptCause.{ScriptCause}
 use Rattle.rl_model.specs.Script.{Said, with_line, declared_names, channels_named, published, fed, ends_settled, is_publish}
 
 -- whether a channel is the one that is kept, if one is

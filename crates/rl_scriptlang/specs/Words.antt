@@ -1,7 +1,7 @@
 -- The words by which causes are told.
 use Rattle.std.specs.Prelude.{ℕ, List, codes}
-use Rattle.rl_types.specs.declared.script.ScriptCause.{ScriptCause}
-use Rattle.rl_types.specs.declared.script.ScriptCause.TheVariants as cause
+use Rattle.rl_runs.specs.declared.script.ScriptCause.{ScriptCause}
+use Rattle.rl_runs.specs.declared.script.ScriptCause.TheVariants as cause
 
 abbrev pub cause_word : ScriptCause → List ℕ
 cause_word cause.Text = codes "text"

@@ -3,7 +3,7 @@ ghost use Rattle.rl_scriptlang.specs.declared.fault.LineFault.TheVariants as lin
 
 use crate::cause_word;
 use rl_ids::NoMemory;
-use rl_types::ScriptCause;
+use rl_runs::ScriptCause;
 use std::error::Error;
 use std::fmt;
 

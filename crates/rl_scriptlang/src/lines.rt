@@ -9,8 +9,9 @@ use crate::number::number_within;
 use crate::split::{Four, Told, cut, only_four, only_one, only_two, take_token, two_and_text};
 use crate::tokens::{channel_of, name_of, text_of};
 use rl_ids::{ChannelSerial, Epoch, List, NoMemory, Place, Text};
-use rl_numbers::limits::{MAX_COUNT, MAX_FED_TEXT, MAX_TEXT};
-use rl_types::{Command, Item, Line, ScriptCause};
+use rl_numbers::limits::{MAX_COUNT, MAX_FED_TEXT, MAX_GIVEN, MAX_TEXT};
+use rl_runs::{Command, Line, ScriptCause};
+use rl_types::Item;
 use std::alloc::Global;
 
 fn client_line(alloc: Global, rest: Option<&str>) -> Result<Option<Line>, LineFault>
@@ -62,10 +63,10 @@ fn attach_at(alloc: Global, tokens: Four<'_>) -> Result<Option<Line>, LineFault>
 {
     let name = name_of(alloc, tokens.first)?;
     let channel = channel_of(alloc, tokens.second)?;
-    let Some(epoch) = number_within(0, u64::MAX, tokens.third) else {
+    let Some(epoch) = number_within(0, MAX_GIVEN, tokens.third) else {
         return Err(LineFault::Cause(ScriptCause::Number));
     };
-    let Some(place) = number_within(0, u64::MAX, tokens.fourth) else {
+    let Some(place) = number_within(0, MAX_GIVEN, tokens.fourth) else {
         return Err(LineFault::Cause(ScriptCause::Number));
     };
     let serial = ChannelSerial {

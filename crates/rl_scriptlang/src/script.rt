@@ -10,7 +10,7 @@ use crate::fault::LineFault;
 use crate::feeds::first_line;
 use crate::seen::Seen;
 use rl_numbers::limits::MAX_PUT;
-use rl_types::Script;
+use rl_runs::Script;
 use std::alloc::Global;
 
 /// Reads bytes as a script: its lines, or the number, from 1, of the first line that is refused, and why.

@@ -9,7 +9,7 @@ use crate::fault::LineFault;
 use crate::lines::line_of;
 use rl_ids::{Copied, List, NoMemory, Text};
 use rl_numbers::limits::{MAX_PUBLISHED, MAX_PUT};
-use rl_types::{Command, Line, ScriptCause};
+use rl_runs::{Command, Line, ScriptCause};
 use std::alloc::Global;
 use std::marker::Model;
 
@@ -27,7 +27,7 @@ pub struct Seen {
 
 impl Model for Seen {
     ghost use Rattle.std.specs.Prelude.{List};
-    ghost use Rattle.rl_types.specs.declared.script.Line.{Line};
+    ghost use Rattle.rl_runs.specs.declared.script.Line.{Line};
     ghost use Rattle.rl_scriptlang.specs.Seen.{IsSeen};
 
     ghost Value = { List Line };

@@ -1,14 +1,14 @@
 // Names, channels and texts, by themselves.
 ghost use Rattle.std.specs.Prelude.{◌≡◌, if◌then◌else◌, length, Ok, Err};
 ghost use Rattle.std.specs.List.{list_all};
-ghost use Rattle.rl_types.specs.declared.script.ScriptCause.TheVariants as cause;
+ghost use Rattle.rl_runs.specs.declared.script.ScriptCause.TheVariants as cause;
 ghost use Rattle.rl_model.specs.Script.{is_between, is_name_byte, is_channel_byte, is_name, is_channel};
 ghost use Rattle.rl_scriptlang.specs.Grammar.{Gives};
 
 use crate::fault::LineFault;
 use rl_ids::Text;
 use rl_numbers::limits::{MAX_NAME, MAX_WORD};
-use rl_types::ScriptCause;
+use rl_runs::ScriptCause;
 use std::alloc::Global;
 
 fn is_name_byte(byte: u8) -> bool

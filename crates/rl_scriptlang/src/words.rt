@@ -1,7 +1,7 @@
 ghost use Rattle.std.specs.Prelude.{◌≡◌};
 ghost use Rattle.rl_scriptlang.specs.Words.{cause_word};
 
-use rl_types::ScriptCause;
+use rl_runs::ScriptCause;
 
 /// The word by which a cause is told.
 pub fn cause_word(cause: ScriptCause) -> &'static str

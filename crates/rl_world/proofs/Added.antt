@@ -9,10 +9,10 @@ use Rattle.rl_base.proofs.Digits.{fixed_lengths}
 use Rattle.rl_base.specs.Digits.{fixed_text}
 use Rattle.rl_ids.specs.Forms.{conn_text}
 use Rattle.rl_types.specs.Weight.{option_len, item_weight, op_weight, presence_weight, body_weight}
-use Rattle.rl_types.specs.declared.channel.ChannelEvent.{ChannelEvent}
-use Rattle.rl_types.specs.declared.channel.ChannelEvent.TheVariants.{Put, Join, Read, MemberPage, ObjectPage, Gone, Tick, Census}
-use Rattle.rl_types.specs.declared.channel.Outcome.{Outcome}
-use Rattle.rl_types.specs.declared.channel.ReadReply.TheVariants.{Run, NotRetained}
+use Rattle.rl_events.specs.declared.channel.ChannelEvent.{ChannelEvent}
+use Rattle.rl_events.specs.declared.channel.ChannelEvent.TheVariants.{Put, Join, Read, MemberPage, ObjectPage, Gone, Tick, Census}
+use Rattle.rl_events.specs.declared.channel.Outcome.{Outcome}
+use Rattle.rl_events.specs.declared.channel.ReadReply.TheVariants.{Run, NotRetained}
 use Rattle.rl_types.specs.declared.messages.Body.{Body}
 use Rattle.rl_types.specs.declared.messages.Body.TheVariants.{Messages, Presence, Objects}
 use Rattle.rl_types.specs.declared.messages.Entry.{Entry}

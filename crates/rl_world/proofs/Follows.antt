@@ -2,7 +2,7 @@
 use Rattle.std.proofs.Common.{◌≡◌, ℕ, ◌+◌, ◌<◌, ◌≤◌, ◌^◌, List, take, sym, ◌∙◌, ap, subst, arith, get_or, length}
 use Rattle.std.specs.Prelude.{sum_by}
 use Rattle.std.proofs.lemmas.List.Sums.{sum_by_more_le, fold_more}
-use Rattle.rl_types.specs.declared.script.Line.{Line}
+use Rattle.rl_runs.specs.declared.script.Line.{Line}
 use Rattle.rl_model.specs.World.{World, empty_world, after_line, final}
 use Rattle.rl_model.specs.Script.{fed, fed_by, published}
 use Rattle.rl_model.specs.Limits.{AreSmallLines}

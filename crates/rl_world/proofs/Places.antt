@@ -2,7 +2,7 @@
 use Rattle.std.proofs.Common.{◌≡◌, ℕ, zero, suc, ◌+◌, ◌-◌, ◌^◌, ◌<◌, ◌≤◌, List, [], ◌∷◌, ◌++◌, length, drop, refl, sym, ◌∙◌, ap, arith, inl, inr, append_assoc, add-one, zero-add, append-nil}
 use Rattle.std.specs.Prelude.{◌⊎◌, min, Option, Some, slice_get, slice_set}
 use Rattle.std.proofs.lemmas.List.{drop_all}
-use Rattle.rl_types.specs.declared.findings.Segment.{Segment}
+use Rattle.rl_runs.specs.declared.findings.Segment.{Segment}
 use Rattle.rl_types.specs.declared.messages.Body.{Body}
 use Rattle.rl_types.specs.declared.messages.Entry.{Entry}
 use Rattle.rl_types.specs.declared.messages.Given.{Given}

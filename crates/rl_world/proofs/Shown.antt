@@ -1,11 +1,11 @@
 -- What a world shows.
 use Rattle.std.proofs.Common.{◌≡◌, ℕ, ◌-◌, ◌≤◌, List, [], ◌∷◌, length, refl, sym, ◌∙◌, ap, subst, arith, length-drop}
 use Rattle.std.specs.Prelude.{Option, Some, None}
-use Rattle.rl_types.specs.declared.channel.ChannelEvent.{ChannelEvent}
-use Rattle.rl_types.specs.declared.findings.ChannelFindings.{ChannelFindings}
-use Rattle.rl_types.specs.declared.findings.ClientFindings.{ClientFindings}
-use Rattle.rl_types.specs.declared.findings.Segment.{Segment}
-use Rattle.rl_types.specs.declared.script.Line.{Line}
+use Rattle.rl_events.specs.declared.channel.ChannelEvent.{ChannelEvent}
+use Rattle.rl_runs.specs.declared.findings.ChannelFindings.{ChannelFindings}
+use Rattle.rl_runs.specs.declared.findings.ClientFindings.{ClientFindings}
+use Rattle.rl_runs.specs.declared.findings.Segment.{Segment}
+use Rattle.rl_runs.specs.declared.script.Line.{Line}
 use Rattle.rl_model.specs.declared.plain.Client.{Client}
 use Rattle.rl_model.specs.Client.{pending, numbered}
 use Rattle.rl_model.specs.Verdict.{head}

@@ -4,18 +4,18 @@ use Rattle.std.specs.Prelude.{⊤, Option, Some, None, fold, option_to_list}
 use Rattle.std.specs.List.{AllByRecursion}
 use Rattle.std.proofs.lemmas.List.Sums.{sum_by-cons}
 use Rattle.rl_types.specs.Weight.{option_len}
-use Rattle.rl_types.specs.declared.channel.ChannelEvent.{ChannelEvent}
-use Rattle.rl_types.specs.declared.channel.ChannelEvent.TheVariants.{Put, Join}
+use Rattle.rl_events.specs.declared.channel.ChannelEvent.{ChannelEvent}
+use Rattle.rl_events.specs.declared.channel.ChannelEvent.TheVariants.{Put, Join}
 use Rattle.rl_types.specs.declared.messages.Entry.{Entry}
 use Rattle.rl_types.specs.declared.messages.Body.{Body}
 use Rattle.rl_types.specs.declared.messages.Body.TheVariants.{Messages, Presence, Objects}
 use Rattle.rl_types.specs.declared.messages.Given.{Given}
 use Rattle.rl_types.specs.declared.messages.Given.TheVariants.{Ours}
-use Rattle.rl_types.specs.declared.findings.Segment.{Segment}
-use Rattle.rl_types.specs.declared.script.Line.{Line}
-use Rattle.rl_types.specs.declared.script.Line.TheVariants as lines
-use Rattle.rl_types.specs.declared.commands.Command.{Command}
-use Rattle.rl_types.specs.declared.commands.Command.TheVariants.{Attach, AttachAt, Publish}
+use Rattle.rl_runs.specs.declared.findings.Segment.{Segment}
+use Rattle.rl_runs.specs.declared.script.Line.{Line}
+use Rattle.rl_runs.specs.declared.script.Line.TheVariants as lines
+use Rattle.rl_runs.specs.declared.commands.Command.{Command}
+use Rattle.rl_runs.specs.declared.commands.Command.TheVariants.{Attach, AttachAt, Publish}
 use Rattle.rl_types.specs.declared.states.ConnState.{ConnState}
 use Rattle.rl_types.specs.declared.states.ConnState.TheVariants as conn
 use Rattle.rl_types.specs.declared.states.ChanState.{ChanState}

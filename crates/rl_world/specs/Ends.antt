@@ -1,7 +1,7 @@
 -- Segments that end within a log.
 use Rattle.std.specs.Prelude.{ℕ, ◌≤◌, List, Option, Some, None, ⊤}
 use Rattle.std.specs.List.{AllByRecursion}
-use Rattle.rl_types.specs.declared.findings.Segment.{Segment}
+use Rattle.rl_runs.specs.declared.findings.Segment.{Segment}
 use Rattle.rl_model.specs.declared.plain.Client.{Client}
 use Rattle.rl_model.specs.Records.{segment_end}
 

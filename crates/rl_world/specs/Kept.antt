@@ -1,8 +1,8 @@
 -- What a channel shows of what its history left, and the entries of a world.
 use Rattle.std.specs.Prelude.{ℕ, Bool, true, false, List, [], ◌∷◌, ◌++◌, length, Option, Some, None}
-use Rattle.rl_types.specs.declared.channel.ReadReply.{ReadReply}
-use Rattle.rl_types.specs.declared.channel.ReadReply.TheVariants.{Run, NotRetained}
-use Rattle.rl_types.specs.declared.findings.ChannelFindings.{ChannelFindings}
+use Rattle.rl_events.specs.declared.channel.ReadReply.{ReadReply}
+use Rattle.rl_events.specs.declared.channel.ReadReply.TheVariants.{Run, NotRetained}
+use Rattle.rl_runs.specs.declared.findings.ChannelFindings.{ChannelFindings}
 use Rattle.rl_types.specs.declared.messages.Entry.{Entry}
 use Rattle.rl_model.specs.Parts.{Parts, retained}
 

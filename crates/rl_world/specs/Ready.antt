@@ -6,8 +6,8 @@ use Rattle.rl_model.specs.declared.plain.Client.{Client}
 use Rattle.rl_model.specs.declared.plain.Sent.{Sent}
 use Rattle.rl_model.specs.Client.{connected}
 use Rattle.rl_ids.specs.Forms.{conn_text}
-use Rattle.rl_types.specs.declared.findings.Answer.{Answer}
-use Rattle.rl_types.specs.declared.findings.Answer.TheVariants.{Ack, Nack}
+use Rattle.rl_runs.specs.declared.findings.Answer.{Answer}
+use Rattle.rl_runs.specs.declared.findings.Answer.TheVariants.{Ack, Nack}
 use Rattle.rl_model.specs.World.{World, with_client, the_conn}
 use Rattle.rl_world.specs.State.{WorldState, Shows}
 

@@ -1,8 +1,8 @@
 -- What a world keeps, and the script that it stands for.
 use Rattle.std.specs.Prelude.{◌≡◌, ℕ, ◌+◌, ◌<◌, ◌^◌, Bool, true, false, List, [], ◌∷◌, Option}
-use Rattle.rl_types.specs.declared.channel.ChannelEvent.{ChannelEvent}
+use Rattle.rl_events.specs.declared.channel.ChannelEvent.{ChannelEvent}
 use Rattle.rl_types.specs.declared.messages.Entry.{Entry}
-use Rattle.rl_types.specs.declared.script.Line.{Line}
+use Rattle.rl_runs.specs.declared.script.Line.{Line}
 use Rattle.rl_model.specs.declared.plain.Client.{Client}
 use Rattle.rl_model.specs.Records.{the_epoch, the_site}
 use Rattle.rl_model.specs.Verdict.{log}

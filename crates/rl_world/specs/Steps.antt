@@ -1,11 +1,11 @@
 -- What a line makes of what is kept, where the channel machine has no part in it.
 use Rattle.std.specs.Prelude.{ℕ, List, option_map}
-use Rattle.rl_types.specs.declared.channel.ChannelEvent.{ChannelEvent}
-use Rattle.rl_types.specs.declared.channel.Verdict.{Verdict}
+use Rattle.rl_events.specs.declared.channel.ChannelEvent.{ChannelEvent}
+use Rattle.rl_events.specs.declared.channel.Verdict.{Verdict}
 use Rattle.rl_types.specs.declared.messages.Body.{Body}
 use Rattle.rl_model.specs.Records.{the_site}
 use Rattle.rl_channel.specs.Steps.{verdict_of}
-use Rattle.rl_types.specs.declared.commands.Command.{Command}
+use Rattle.rl_runs.specs.declared.commands.Command.{Command}
 use Rattle.rl_types.specs.declared.states.ConnState.{ConnState}
 use Rattle.rl_model.specs.declared.plain.Client.{Client}
 use Rattle.rl_model.specs.Client.{act}

@@ -8,7 +8,8 @@ use crate::records::held;
 use crate::travel::connected_arrives;
 use rl_ids::{Copied, List, NoMemory, Text};
 use rl_model::{Client, Sent};
-use rl_types::{Body, ChanState, Command, ConnState, Given};
+use rl_runs::Command;
+use rl_types::{Body, ChanState, ConnState, Given};
 use std::alloc::Global;
 
 // A client that is declared.

@@ -11,12 +11,11 @@ ghost use Rattle.rl_world.specs.Kept.{channel_kept, channels_kept};
 use crate::records::held;
 use crate::serving::CLIENT;
 use rl_chanlog::ChanLog;
+use rl_events::ReadReply;
 use rl_ids::{ChannelSerial, Copied, List, NoMemory, ObjectId, Place, Text, write_conn};
 use rl_model::Client;
-use rl_types::{
-    ChanState, ChannelFindings, ChannelView, ClientFindings, Entry, Given, ObjectBody, ObjectState,
-    ReadReply, Record,
-};
+use rl_runs::{ChannelFindings, ChannelView, ClientFindings, Record};
+use rl_types::{ChanState, Entry, Given, ObjectBody, ObjectState};
 use std::alloc::Global;
 
 // All entries that are retained.

@@ -7,7 +7,8 @@ ghost use Rattle.rl_world.specs.Travels.{AreSmallEntries};
 use crate::travel::entry_arrives;
 use rl_ids::{ChannelSerial, Copied, Epoch, List, NoMemory, Place, Text};
 use rl_model::Client;
-use rl_types::{Cause, ChanState, Entry, Given, Segment};
+use rl_runs::{Cause, Segment};
+use rl_types::{ChanState, Entry, Given};
 use std::alloc::Global;
 
 /// The epoch in which every script runs.

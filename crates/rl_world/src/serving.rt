@@ -1,6 +1,6 @@
 ghost use Rattle.std.specs.Prelude.{◌≡◌, ◌<◌, ◌^◌, ◌++◌, ◌∷◌, List, Some, length, OnOk, IfOk};
 ghost use Rattle.std.specs.Option.{option_to_list};
-ghost use Rattle.rl_types.specs.declared.channel.ChannelEvent.{ChannelEvent};
+ghost use Rattle.rl_events.specs.declared.channel.ChannelEvent.{ChannelEvent};
 ghost use Rattle.rl_model.specs.Parts.{Parts, read_in};
 ghost use Rattle.rl_model.specs.Records.{the_site};
 ghost use Rattle.rl_model.specs.Verdict.{log};
@@ -14,9 +14,11 @@ ghost use Rattle.rl_world.specs.Ready.{acknowledgement};
 use crate::travel::answer_arrives;
 use rl_chanlog::ChanLog;
 use rl_channel::Channel;
+use rl_events::{Outcome, ReadReply, Verdict};
 use rl_ids::{ConnNo, Copied, List, Moment, NoMemory, Place, Text, write_conn};
 use rl_model::Client;
-use rl_types::{Answer, Body, Entry, Item, Outcome, ReadReply, Verdict};
+use rl_runs::Answer;
+use rl_types::{Body, Entry, Item};
 use std::alloc::Global;
 
 /// The connection of a script's client.

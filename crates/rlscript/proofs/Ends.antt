@@ -6,8 +6,8 @@ use Rattle.std.specs.Prelude.{is_some, slice_get, count_by, nat_lt, Option, Some
 use Rattle.std.specs.Io.KnownBytes.{Consumes, Keeps, IsAtEnd}
 use Rattle.std.proofs.lemmas.List.{append_cancel_right}
 use Rattle.std.proofs.KnownBytes.{Keeps-refl}
-use Rattle.rl_types.specs.declared.script.Line.{Line}
-use Rattle.rl_types.specs.declared.script.ScriptCause.{ScriptCause}
+use Rattle.rl_runs.specs.declared.script.Line.{Line}
+use Rattle.rl_runs.specs.declared.script.ScriptCause.{ScriptCause}
 use Rattle.rl_model.specs.Script.{Refusal, is_too_long, script_of, line_count, ends_open, is_open, is_feed}
 use Rattle.rl_model.specs.Records.{the_site}
 use Rattle.rl_model.specs.World.{final}

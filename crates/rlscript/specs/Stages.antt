@@ -1,7 +1,7 @@
 -- What the stages of a run answer.
 use Rattle.std.specs.Prelude.{◌≡◌, ◌≢◌, ◌⊎◌, ℕ, List, take, Option, None, Result, Ok, Err}
 use Rattle.std.specs.Io.KnownBytes.{Appends}
-use Rattle.rl_types.specs.declared.script.Line.{Line}
+use Rattle.rl_runs.specs.declared.script.Line.{Line}
 use Rattle.rl_outside.specs.Counts.{Rose}
 use Rattle.rl_model.specs.Script.{Refusal, script_of}
 use Rattle.rl_world.specs.State.{WorldState, StandsFor}

@@ -2,8 +2,8 @@
 use Rattle.std.specs.Prelude.{◌≡◌, ◌⊎◌, ℕ, ◌<◌, ◌≤◌, length, Bool, true, false, List, [], ◌∷◌, ◌++◌, take, map, Option, Some, None, Result, Ok, Err, IsTrue, IsFalse, IsSome, IfSome, ◌≢◌, String, string_bytes, codes, decimal, bytes_eq, if◌then◌else◌}
 use Rattle.std.specs.Io.KnownBytes.{Keeps, Appends}
 use Rattle.std.specs.declared.alloc.Global.{Global}
-use Rattle.rl_types.specs.declared.script.Line.{Line}
-use Rattle.rl_types.specs.declared.script.ScriptCause.{ScriptCause}
+use Rattle.rl_runs.specs.declared.script.Line.{Line}
+use Rattle.rl_runs.specs.declared.script.ScriptCause.{ScriptCause}
 use Rattle.rl_outside.specs.Counts.{Rose}
 use Rattle.rl_model.specs.Records.{the_site}
 use Rattle.rl_model.specs.World.{final}

@@ -10,8 +10,8 @@ use rl_ids::{Blob, NoMemory};
 use rl_numbers::limits::MAX_SCRIPT_SIZE;
 use rl_outside::{Gave, Sink};
 use rl_report::report;
+use rl_runs::{Script, ScriptCause};
 use rl_scriptlang::{ScriptFault, cause_word, read_script};
-use rl_types::{Script, ScriptCause};
 use rl_world::{World, run};
 use std::alloc::Global;
 

@@ -2,7 +2,7 @@ use Rattle.std.proofs.Common.{◌≡◌, ◌∙◌, List, [], ap, sym, subst, ar
 use Rattle.std.specs.Prelude.{Ok}
 use Rattle.std.specs.Str.Lines.{lines}
 use Rattle.std.proofs.lemmas.Bool.Decides.{nat_tests}
-use Rattle.rl_types.specs.declared.script.Line.{Line}
+use Rattle.rl_runs.specs.declared.script.Line.{Line}
 use Rattle.rl_model.specs.Script.{script_from}
 use Rattle.rl_model.specs.Limits.{AreSmallLines}
 use Rattle.rl_scriptlang.proofs.Small.{small_lines, no_more}

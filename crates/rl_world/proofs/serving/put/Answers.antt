@@ -1,5 +1,5 @@
 use Rattle.std.proofs.Common.{◌∷◌, ℕ, List, ap, sym, subst, ◌∙◌}
-use Rattle.rl_types.specs.declared.channel.ChannelEvent.TheVariants.{Put}
+use Rattle.rl_events.specs.declared.channel.ChannelEvent.TheVariants.{Put}
 use Rattle.rl_model.specs.Parts.{parts_of}
 use Rattle.rl_model.specs.Records.{the_site}
 use Rattle.rl_chanlog.specs.Keeps.{Keeps}

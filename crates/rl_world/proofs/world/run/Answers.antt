@@ -1,5 +1,5 @@
 use Rattle.std.proofs.Common.{subst, sym, ◌+◌, ◌<◌, ◌^◌, List}
-use Rattle.rl_types.specs.declared.script.Line.{Line}
+use Rattle.rl_runs.specs.declared.script.Line.{Line}
 use Rattle.rl_model.specs.Script.{fed, published}
 use Rattle.rl_model.specs.Limits.{AreSmallLines}
 use Rattle.rl_world.proofs.Follows.{run_step}

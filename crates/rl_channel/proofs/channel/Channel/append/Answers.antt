@@ -1,5 +1,5 @@
 use Rattle.std.proofs.Common.{ℕ, sym, subst}
-use Rattle.rl_types.specs.declared.channel.Outcome.{Outcome}
+use Rattle.rl_events.specs.declared.channel.Outcome.{Outcome}
 use Rattle.rl_model.specs.Parts.{with_entry, with_outcome}
 use Rattle.rl_chanlog.specs.Keeps.{Keeps}
 use Rattle.rl_channel.specs.State.{ChannelState}

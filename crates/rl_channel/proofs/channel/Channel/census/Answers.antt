@@ -1,5 +1,5 @@
 use Rattle.std.proofs.Common.{ℕ, List, length, sym, ap, subst, ◌∙◌}
-use Rattle.rl_types.specs.declared.channel.ChannelReply.TheVariants as replies
+use Rattle.rl_events.specs.declared.channel.ChannelReply.TheVariants as replies
 use Rattle.rl_types.specs.declared.presence.PresenceItem.{PresenceItem}
 use Rattle.rl_model.specs.Parts.{parts_of}
 use Rattle.rl_model.specs.Verdict.{head}

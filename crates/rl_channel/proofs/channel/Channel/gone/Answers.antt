@@ -1,4 +1,4 @@
-use Rattle.rl_types.specs.declared.channel.ChannelEvent.TheVariants.{Gone}
+use Rattle.rl_events.specs.declared.channel.ChannelEvent.TheVariants.{Gone}
 use Rattle.std.proofs.Common.{◌≡◌, ℕ, List, ◌∷◌, map, refl, ap, sym, subst, ◌∙◌}
 use Rattle.std.specs.Prelude.{filter}
 use Rattle.rl_types.specs.declared.presence.PresenceItem.{PresenceItem}

@@ -1,6 +1,6 @@
 use Rattle.std.proofs.Common.{ℕ, sym, ap, subst, ◌∙◌}
 use Rattle.std.specs.Prelude.{Option}
-use Rattle.rl_types.specs.declared.channel.Outcome.{Outcome}
+use Rattle.rl_events.specs.declared.channel.Outcome.{Outcome}
 use Rattle.rl_model.specs.Parts.{parts_of}
 use Rattle.rl_model.specs.Verdict.{Adds, decisions, head, kept}
 use Rattle.rl_channel.specs.State.{ChannelState, StandsAt}

@@ -1,7 +1,7 @@
 use Rattle.std.proofs.Common.{sym, ◌∙◌, ◌∷◌}
 use Rattle.rl_model.specs.History.{setting}
 use Rattle.rl_model.specs.Verdict.{decisions, kept, remembered_of, fails_or, limit_rule, object_rule, Adds, told, head}
-use Rattle.rl_types.specs.declared.channel.ChannelEvent.TheVariants.{Put}
+use Rattle.rl_events.specs.declared.channel.ChannelEvent.TheVariants.{Put}
 use Rattle.rl_channel.proofs.Rules.{early_settles}
 use Rattle.rl_channel.proofs.Puts.{put_at, settles_early, stays}
 use Rattle.rl_channel.proofs.channel.Channel.put.Goals as goal

@@ -1,6 +1,6 @@
 use Rattle.std.proofs.Common.{◌≡◌, List, subst}
 use Rattle.std.specs.Prelude.{IfOk}
-use Rattle.rl_types.specs.declared.channel.ChannelEvent.{ChannelEvent}
+use Rattle.rl_events.specs.declared.channel.ChannelEvent.{ChannelEvent}
 use Rattle.rl_model.specs.Reply.{read_reply}
 use Rattle.rl_channel.specs.State.{ChannelState, StandsFor}
 use Rattle.rl_channel.proofs.Replies.{reads}

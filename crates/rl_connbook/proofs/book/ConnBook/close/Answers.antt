@@ -1,8 +1,8 @@
 use Rattle.std.proofs.Common.{◌≡◌, refl, sym}
 use Rattle.std.specs.Prelude.{Some, None}
-use Rattle.rl_types.specs.declared.book.BookEvent.{BookEvent}
-use Rattle.rl_types.specs.declared.book.BookEvent.TheVariants.{Close}
-use Rattle.rl_types.specs.declared.book.BookReply.TheVariants.{Superseded, NoRecord, Done}
+use Rattle.rl_events.specs.declared.book.BookEvent.{BookEvent}
+use Rattle.rl_events.specs.declared.book.BookEvent.TheVariants.{Close}
+use Rattle.rl_events.specs.declared.book.BookReply.TheVariants.{Superseded, NoRecord, Done}
 use Rattle.rl_connbook.specs.Book.{Book, record_at}
 use Rattle.rl_connbook.specs.Steps.{record_after}
 use Rattle.rl_connbook.proofs.Changes.{IsPlain, written, unchanged, at_none, at_late, at_now}

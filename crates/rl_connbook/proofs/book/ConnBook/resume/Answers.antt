@@ -1,7 +1,7 @@
 use Rattle.std.proofs.Common.{◌≡◌, ℕ, true, false, refl, ap, sym, subst, ◌∙◌, List}
 use Rattle.std.specs.Prelude.{Some, None}
-use Rattle.rl_types.specs.declared.book.BookEvent.TheVariants.{Resume}
-use Rattle.rl_types.specs.declared.book.BookReply.TheVariants.{Resumed, KeyUnknown}
+use Rattle.rl_events.specs.declared.book.BookEvent.TheVariants.{Resume}
+use Rattle.rl_events.specs.declared.book.BookReply.TheVariants.{Resumed, KeyUnknown}
 use Rattle.rl_connbook.specs.declared.record.Record.{Record}
 use Rattle.rl_connbook.specs.Records.{raised}
 use Rattle.rl_connbook.specs.Sound.{IsNumbered}

@@ -1,10 +1,10 @@
 //! What a run shows, in the order in which a report prints it.
-use crate::{Body, ChanState, ConnState, Entry, Given, ObjectState, PresenceItem};
 use rl_ids::{ChannelSerial, Copied, Epoch, List, NoMemory, Place, Text};
+use rl_types::{Body, ChanState, ConnState, Entry, Given, ObjectState, PresenceItem};
 use std::alloc::Global;
 
 /// Why a segment of a record begins where it does. (This project's own; the spec tells of it by the flag
-/// RESUMED, RTL12.)
+/// RESUMED, TR3c.)
 #[derive(Debug, Drop)]
 pub enum Cause {
     /// No serial was given.

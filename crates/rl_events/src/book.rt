@@ -67,7 +67,7 @@ pub enum BookReply {
     KeyUnknown,
     /// The put may go on.
     Go,
-    /// A put with this serial has ended with this outcome already (RTN19a2).
+    /// A put with this serial has ended with this outcome already: it was sent again after a drop (RTN19a).
     Known(Outcome),
     /// A serial was left out.
     SerialGap {

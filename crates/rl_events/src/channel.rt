@@ -1,5 +1,5 @@
-use crate::{Body, Entry, Given, ObjectState, PresenceItem};
 use rl_ids::{ChannelSerial, ConnNo, Copied, List, MemberKey, Moment, NoMemory, ObjectId, Place};
+use rl_types::{Body, Entry, Given, ObjectState, PresenceItem};
 use std::alloc::Global;
 
 /// How a put ended.
@@ -48,7 +48,7 @@ pub enum ChannelEvent {
         after: Option<ObjectId>,
         max: usize,
     },
-    /// A connection is gone for good (RTN15g).
+    /// A connection is gone for good (this project's own).
     Gone {
         conn: ConnNo,
         now: Moment,
@@ -73,7 +73,7 @@ pub enum ReadReply {
 #[derive(Debug, Drop)]
 pub enum ChannelReply {
     Put(Verdict),
-    /// Where the session begins; whether it goes on from the serial that was given (RTL12, RESUMED);
+    /// Where the session begins; whether it goes on from the serial that was given (RESUMED, TR3c);
     /// whether members and objects may be there.
     Joined {
         serial: ChannelSerial,

@@ -1,6 +1,6 @@
 //! What a client is told to do, and what it brings when it connects.
-use crate::{ChanState, ConnState, Frame, Item, Op};
 use rl_ids::{ChannelSerial, Copied, List, NoMemory, Text};
+use rl_types::{ChanState, ConnState, Frame, Item, Op};
 use std::alloc::Global;
 
 /// What a client is told to do. Channels stand by their names.
