@@ -61,7 +61,8 @@ impl ChanLog {
     }
 
     /// Puts an entry after the others, with the id that its put gave, and lets the window move on: the earliest
-    /// entries that do not fit any more are dropped. It takes no memory, and costs what it drops.
+    /// entries that do not fit any more are dropped. Its place is the one after the head, and stamps never fall: its
+    /// stamp is not before that of the entry before it. It takes no memory, and costs what it drops.
     pub fn add(&mut self, entry: Entry, id: Option<Text>)
         requires room { 0 < self.old.room }
         requires place { entry.place ≡ self.old.head + 1 }

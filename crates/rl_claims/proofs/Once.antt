@@ -10,9 +10,11 @@ use Rattle.rl_types.specs.declared.messages.Entry.{Entry}
 use Rattle.rl_events.specs.declared.channel.Outcome.{Outcome}
 use Rattle.rl_types.specs.declared.messages.Body.{Body}
 use Rattle.rl_numbers.specs.declared.limits.TheConstants.{MAX_PLACE, MAX_REMEMBERED}
-use Rattle.rl_model.specs.History.{Setting, setting}
+use Rattle.rl_objmodel.specs.Rules.{Setting}
+use Rattle.rl_model.specs.History.{setting}
+use Rattle.rl_model.specs.Objects.{object_rule}
 use Rattle.rl_model.specs.Ids.{given_id}
-use Rattle.rl_model.specs.Verdict.{Decision, Added, added, added_by, entries, decided, decisions, is_text, remembered, remembered_of, judged, judged_by_id, judged_by_rules, judged_by_serial, fails_or, limit_rule, object_rule, told, entry_of_gone, members_on, given_id_of, Judgement, Stale, Again, Known, Fails, Adds, kept, entry_if, gone_entry}
+use Rattle.rl_model.specs.Verdict.{Decision, Added, added, added_by, entries, decided, decisions, is_text, remembered, remembered_of, judged, judged_by_id, judged_by_rules, judged_by_serial, fails_or, limit_rule, told, entry_of_gone, members_on, given_id_of, Judgement, Stale, Again, Known, Fails, Adds, kept, entry_if, gone_entry}
 use Rattle.rl_claims.specs.Once.{AreApart, OnceById}
 
 -- PLACES
@@ -80,7 +82,7 @@ none_found (Some a) h = absurd (cc)
 
 adds_new : (setting : Setting) (before : List Decision) (conn serial : ℕ) (body : Body) → judged setting before conn serial body ≡ Adds → (id : List ℕ) → given_id body ≡ Some id → find (has id) (take MAX_REMEMBERED (added before)) ≡ None
 adds_new setting before conn serial body adds id given =
-    let rules = judged_by_rules (length (entries before)) body (fails_or (limit_rule (told before) conn body) (fails_or (object_rule setting body) Adds)) in
+    let rules = judged_by_rules (length (entries before)) body (fails_or (limit_rule (told before) conn body) (fails_or (object_rule setting (entries before) body) Adds)) in
     let new = new_serial serial (kept conn before) (judged_by_id (remembered_of body before) rules) adds in
     let unknown = not_known (remembered_of body before) rules new in
     let F : Option (List ℕ) → Type 0 = λ x. option_and_then (λ (i : List ℕ). remembered i before) x ≡ None in

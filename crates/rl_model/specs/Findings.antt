@@ -13,7 +13,8 @@ use Rattle.rl_runs.specs.declared.findings.ClientFindings.{ClientFindings}
 use Rattle.rl_runs.specs.declared.findings.Findings.{Findings}
 use Rattle.rl_model.specs.declared.plain.Client.{Client}
 use Rattle.rl_model.specs.Verdict.{log, head}
-use Rattle.rl_model.specs.Objects.{objects_kept}
+use Rattle.rl_objmodel.specs.Held.{bare_root, shown}
+use Rattle.rl_types.specs.declared.objects.ObjectState.{ObjectState}
 use Rattle.rl_model.specs.Window.{first}
 use Rattle.rl_model.specs.Records.{the_epoch, the_site}
 use Rattle.rl_model.specs.Client.{held, pending}
@@ -39,6 +40,10 @@ abbrev pub is_attached : ChanState → Bool
 is_attached Attached = true
 is_attached _ = false
 
+-- the objects that a client knows of: a root that nobody wrote to
+abbrev pub objects_known : List ObjectState
+objects_known = shown bare_root ∷ []
+
 abbrev pub view_of : List ℕ → Client → ChannelView
 view_of name client =
     record {
@@ -49,7 +54,7 @@ view_of name client =
       members_whole = is_attached client.chan;
       members = [];
       objects_whole = is_attached client.chan;
-      objects = objects_kept;
+      objects = objects_known;
     }
 
 -- a record is shown once the client was told to attach

@@ -3,6 +3,7 @@
 use Rattle.std.specs.Prelude.{ℕ, max, List, [], ◌∷◌}
 use Rattle.rl_events.specs.declared.channel.ChannelEvent.{ChannelEvent}
 use Rattle.rl_events.specs.declared.channel.ChannelEvent.TheVariants.{Put, Gone, Tick}
+use Rattle.rl_objmodel.specs.Rules.{Setting}
 
 -- the moment that an event was given
 abbrev pub moment_of : ChannelEvent → ℕ
@@ -23,10 +24,5 @@ ticked (Tick now ∷ past) = clock (Tick now ∷ past)
 ticked (_ ∷ past) = ticked past
 
 -- a channel's site, and what its clock shows: now, and at the last Tick
-pub record Setting : Type 0 where
-  pub site : List ℕ
-  pub now : ℕ
-  pub ticked : ℕ
-
 abbrev pub setting : List ℕ → List ChannelEvent → Setting
 setting site past = record { site = site; now = clock past; ticked = ticked past }

@@ -16,3 +16,4 @@ pub mod Script
 pub mod Examples
 pub mod ChannelExamples
 pub mod Limits
+pub mod Lasting

@@ -9,8 +9,11 @@ use Rattle.rl_events.specs.declared.channel.ReadReply.TheVariants.{Run, NotRetai
 use Rattle.rl_types.specs.declared.messages.Entry.{Entry}
 use Rattle.rl_types.specs.declared.messages.Given.{Given}
 use Rattle.rl_types.specs.declared.messages.Given.TheVariants.{Ours}
-use Rattle.rl_model.specs.History.{setting}
+use Rattle.rl_model.specs.History.{setting, ticked}
 use Rattle.rl_model.specs.Objects.{objects_kept, page_states, is_last_states}
+use Rattle.rl_objmodel.specs.Held.{Held}
+use Rattle.rl_types.specs.declared.objects.ObjectState.{ObjectState}
+use Rattle.rl_objmodel.specs.Steps.{is_bare, states}
 use Rattle.rl_model.specs.Verdict.{decisions, decided, verdict, log, head}
 use Rattle.rl_model.specs.Members.{members, page_items, is_last_page}
 use Rattle.rl_model.specs.Window.{first, is_retained}
@@ -40,16 +43,34 @@ abbrev pub gone_place : List ℕ → List ChannelEvent → ℕ → ℕ → Optio
 gone_place site past conn now =
     option_map (λ (e : Entry). e.place) (decided (setting site (Gone conn now ∷ past)) (decisions site past) (Gone conn now)).entry
 
--- what a channel of this epoch and site answers to an event after a history. Members may be there where the session
--- begins before the head
+-- the objects of a channel after a history
+abbrev pub objects_at : List ℕ → List ChannelEvent → List Held
+objects_at site past = objects_kept (ticked past) (log site past)
+
+-- as pages show them
+abbrev pub states_at : List ℕ → List ChannelEvent → List ObjectState
+states_at site past = states (objects_at site past)
+
+-- members may be there where the session begins before the head
+abbrev pub has_presence : List ℕ → List ChannelEvent → ℕ → Bool
+has_presence site past place = not (place == head site past) || not (length (members (log site past)) == 0)
+
+-- objects may be there where the session begins before the head; a root without cells alone is none
+abbrev pub has_objects : List ℕ → List ChannelEvent → ℕ → Bool
+has_objects site past place = not (place == head site past) || not (is_bare (objects_at site past))
+
+-- what a Join of a session that begins at this place is answered
+abbrev pub joined : ℕ → List ℕ → List ChannelEvent → Bool → ℕ → ChannelReply
+joined epoch site past resumed place =
+    replies.Joined (record { epoch = epoch; place = place }) resumed (has_presence site past place) (has_objects site past place)
+
+-- what a channel of this epoch and site answers to an event after a history
 abbrev pub reply : ℕ → List ℕ → List ChannelEvent → ChannelEvent → ChannelReply
 reply epoch site past (Put conn serial body now) = replies.Put (verdict (setting site (Put conn serial body now ∷ past)) (decisions site past) conn serial body)
-reply epoch site past (Join asked) =
-    let place = joined_place epoch site past asked in
-    replies.Joined (record { epoch = epoch; place = place }) (is_resumed epoch site past asked) (not (place == head site past) || not (length (members (log site past)) == 0)) false
+reply epoch site past (Join asked) = joined epoch site past (is_resumed epoch site past asked) (joined_place epoch site past asked)
 reply epoch site past (Read from most) = replies.Read (read_reply site past from most)
 reply epoch site past (MemberPage after most) = replies.Members (page_items after most (members (log site past))) (is_last_page after most (members (log site past))) (head site past)
-reply epoch site past (ObjectPage after most) = replies.Objects (page_states after most objects_kept) (is_last_states after most objects_kept) (head site past)
+reply epoch site past (ObjectPage after most) = replies.Objects (page_states after most (states_at site past)) (is_last_states after most (states_at site past)) (head site past)
 reply epoch site past (Gone conn now) = replies.Gone (gone_place site past conn now)
 reply epoch site past (Tick now) = replies.Ticked
-reply epoch site past Census = replies.Census (first site past) (head site past) (length (members (log site past))) (length objects_kept)
+reply epoch site past Census = replies.Census (first site past) (head site past) (length (members (log site past))) (length (objects_at site past))

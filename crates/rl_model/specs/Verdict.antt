@@ -2,7 +2,7 @@
 use Rattle.std.specs.Prelude.{ℕ, suc, ◌+◌, ◌-◌, Bool, true, false, ◌||◌, not, if◌then◌else◌, ◌==◌, nat_lt, List, [], ◌∷◌, ◌++◌, length, take, drop, find, filter, filter_map, map, reverse, Option, Some, None, option_and_then, option_map, option_to_list, bytes_eq}
 use Rattle.std.specs.List.{list_any}
 use Rattle.rl_numbers.specs.declared.limits.TheConstants.{MAX_MESSAGE_SIZE, MAX_PLACE, MAX_REMEMBERED}
-use Rattle.rl_numbers.specs.declared.codes.TheConstants.{BAD_ACTION, BAD_IDS, LOG_FULL, MEMBER_LIMIT, NO_CLIENT_ID, POOL_LIMIT, TOO_LONG}
+use Rattle.rl_numbers.specs.declared.codes.TheConstants.{BAD_ACTION, BAD_IDS, LOG_FULL, MEMBER_LIMIT, NO_CLIENT_ID, TOO_LONG}
 use Rattle.rl_events.specs.declared.channel.ChannelEvent.{ChannelEvent}
 use Rattle.rl_events.specs.declared.channel.ChannelEvent.TheVariants.{Put, Gone}
 use Rattle.rl_events.specs.declared.channel.Verdict.{Verdict}
@@ -20,7 +20,9 @@ use Rattle.rl_model.specs.Ids.{given_id, has_mixed_ids, has_long, filled}
 use Rattle.rl_ids.specs.Forms.{conn_text}
 use Rattle.rl_model.specs.Texts.{gone_id}
 use Rattle.rl_model.specs.Members.{items_of, members, has_too_many, told_by, is_on}
-use Rattle.rl_model.specs.History.{Setting, setting}
+use Rattle.rl_model.specs.Objects.{object_rule}
+use Rattle.rl_model.specs.History.{setting}
+use Rattle.rl_objmodel.specs.Rules.{Setting}
 
 -- DECISIONS
 
@@ -123,11 +125,6 @@ limit_rule latest conn (Messages items) = None
 limit_rule latest conn (Objects ops) = None
 limit_rule latest conn (Presence items) = if has_too_many latest (map (told_by conn) items) then Some MEMBER_LIMIT else None
 
--- the rules on operations. The channel keeps no objects yet, so its pool has no room for any
-abbrev pub object_rule : Setting → Body → Option ℕ
-object_rule setting (Objects ops) = Some POOL_LIMIT
-object_rule setting _ = None
-
 abbrev pub fails_or : Option ℕ → Judgement → Judgement
 fails_or (Some code) next = Fails code
 fails_or None next = next
@@ -158,7 +155,7 @@ judged setting before conn serial body =
     (judged_by_id (remembered_of body before)
     (judged_by_rules (length (entries before)) body
     (fails_or (limit_rule (told before) conn body)
-    (fails_or (object_rule setting body)
+    (fails_or (object_rule setting (entries before) body)
     Adds))))
 
 abbrev pub verdict_at : ℕ → Judgement → Verdict

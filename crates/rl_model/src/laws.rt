@@ -1,6 +1,7 @@
 //! Laws over the definitions alone. Each is a function that does nothing: its contract is the law.
-ghost use Rattle.rl_model.specs.ChannelExamples.{AnswersMembers};
+ghost use Rattle.rl_model.specs.ChannelExamples.{AnswersMembers, AnswersObjects};
 ghost use Rattle.rl_model.specs.Examples.{Prints, Refuses};
+ghost use Rattle.rl_model.specs.Lasting.{LogsLast, PutsFollow};
 
 /// The reports of small scripts.
 #[tactic(auto, using(crate::proofs::Printed::printed))]
@@ -18,4 +19,23 @@ pub fn examples_refuse()
 #[tactic(auto, using(crate::proofs::Answered::answered))]
 pub fn members_answer()
     ensures { AnswersMembers }
+{}
+
+/// The objects of every channel's log last: each is made once, changed while it is there, and deleted once, and its
+/// operations come with rising serials.
+#[tactic(auto, using(crate::proofs::Lasting::logs_last))]
+pub fn logs_last()
+    ensures { LogsLast }
+{}
+
+/// The operations of a channel's next event may follow those of its log, as long as they pass the rules.
+#[tactic(auto, using(crate::proofs::Lasting::puts_follow))]
+pub fn puts_follow()
+    ensures { PutsFollow }
+{}
+
+/// What a channel answers to operations on objects: rules, frames of several operations, pages, Ticks.
+#[tactic(auto, using(crate::proofs::Answered::answered_objects))]
+pub fn objects_answer()
+    ensures { AnswersObjects }
 {}

@@ -5,7 +5,7 @@ use Rattle.rl_objmodel.specs.Held.{Held}
 use Rattle.rl_objmodel.specs.Steps.{pool_after_op, pool_after, states}
 use Rattle.rl_objmodel.specs.Commuting.{is_range}
 use Rattle.rl_objmodel.specs.Agreeing.{ops_of, pool_taking, NonePasses, PoolsAgree}
-use Rattle.rl_objmodel.proofs.Unstamped.{no_stamps, one_same, outcome_of, states_same}
+use Rattle.rl_objmodel.proofs.Unstamped.{no_stamps, one_same, outcome_of, states_same, shown_alike}
 use Rattle.rl_objmodel.proofs.AgreeingPools.{NoneAt, agree_at}
 
 forgotten : (xs : List Stamped) (pool : List Held) → no_stamps (pool_taking xs pool) ≡ pool_after 0 (ops_of xs) (no_stamps pool)
@@ -20,7 +20,8 @@ none_passes (one ∷ more) pool h = (
 )
 
 pub pools_agree : PoolsAgree
-pools_agree xs ys pool same once fits h k =
+pools_agree xs ys pool other begin same once fits h k =
+    let alike : no_stamps other ≡ no_stamps pool = sym (shown_alike pool other begin) in
     sym (states_same (pool_taking xs pool))
-    ∙ ap states (forgotten xs pool ∙ agree_at 0 (ops_of xs) (ops_of ys) (no_stamps pool) same once fits (none_passes xs pool h) (none_passes ys pool k) ∙ sym (forgotten ys pool))
-    ∙ states_same (pool_taking ys pool)
+    ∙ ap states (forgotten xs pool ∙ agree_at 0 (ops_of xs) (ops_of ys) (no_stamps pool) same once fits (none_passes xs pool h) (subst (λ (p : List Held). NoneAt 0 (ops_of ys) p) alike (none_passes ys other k)) ∙ ap (pool_after 0 (ops_of ys)) (sym alike) ∙ sym (forgotten ys other))
+    ∙ states_same (pool_taking ys other)

@@ -57,7 +57,7 @@ self_id (Made kind hash millis) = all_true (same_kind kind kind) (bytes_eq hash 
 abbrev made : ObjectKind → List ℕ → ℕ → ObjectId
 made kind hash millis = Made kind hash millis
 
-id_is : (a b : ObjectId) → same_id a b ≡ true → a ≡ b
+pub id_is : (a b : ObjectId) → same_id a b ≡ true → a ≡ b
 id_is Root Root h = refl
 id_is Root (Made kind hash millis) h = cc
 id_is (Made kind hash millis) Root h = cc

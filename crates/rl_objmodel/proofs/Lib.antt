@@ -1,6 +1,7 @@
 pub mod Worked
 pub mod PlacesHeld
 pub mod PlacesFound
+pub mod PlacesBack
 pub mod CommutingOps
 pub mod CollectingTwice
 pub mod AgreeingLists
@@ -12,3 +13,4 @@ pub mod Entering
 pub mod FollowingObjects
 pub mod FollowingPools
 pub mod FollowingRules
+pub mod Lasting

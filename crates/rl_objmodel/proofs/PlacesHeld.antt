@@ -132,7 +132,7 @@ module _ {T : Type 0} where
     above = λ k d low high. h.above (suc k) d (omega arith) (omega arith);
   }
 
-  held_inside : (text : List ℕ) (p : List ℕ × T) (ps : List (List ℕ × T)) (at : ℕ) → IsHeldAt text (p ∷ ps) (suc at) → IsHeldAt text ps at
+  pub held_inside : (text : List ℕ) (p : List ℕ × T) (ps : List (List ℕ × T)) (at : ℕ) → IsHeldAt text (p ∷ ps) (suc at) → IsHeldAt text ps at
   held_inside text p ps at h = record {
     place = inside text p ps at h.place;
     within = omega (arith, h.within);
@@ -153,25 +153,25 @@ module _ {T : Type 0} where
   after_place : (text : List ℕ) (p : List ℕ × T) → is_before text p ≡ false → bytes_eq text p.0 ≡ false → slice_cmp nat_cmp text p.0 ≡ Less
   after_place text p late other = after_at text p (slice_cmp nat_cmp text p.0) refl late other
 
-  before_place : (text : List ℕ) (p : List ℕ × T) → is_before text p ≡ true → slice_cmp nat_cmp text p.0 ≡ Greater
+  pub before_place : (text : List ℕ) (p : List ℕ × T) → is_before text p ≡ true → slice_cmp nat_cmp text p.0 ≡ Greater
   before_place text p is = greater_of_less p.0 text (lt_less _ is)
 
   same_place : (text : List ℕ) (p : List ℕ × T) → bytes_eq text p.0 ≡ true → slice_cmp nat_cmp text p.0 ≡ Equal
   same_place text p is = ap (λ (t : List ℕ). slice_cmp nat_cmp text t) (sym (texts_same text p.0 is)) ∙ tied_itself nat_list_cmp_total text
 
-  with_less : (text : List ℕ) (x : T) (p : List ℕ × T) (ps : List (List ℕ × T)) → slice_cmp nat_cmp text p.0 ≡ Less → with_at text x (p ∷ ps) ≡ (text, x) ∷ p ∷ ps
+  pub with_less : (text : List ℕ) (x : T) (p : List ℕ × T) (ps : List (List ℕ × T)) → slice_cmp nat_cmp text p.0 ≡ Less → with_at text x (p ∷ ps) ≡ (text, x) ∷ p ∷ ps
   with_less text x p ps h = rw h refl
 
-  with_equal : (text : List ℕ) (x : T) (p : List ℕ × T) (ps : List (List ℕ × T)) → slice_cmp nat_cmp text p.0 ≡ Equal → with_at text x (p ∷ ps) ≡ (text, x) ∷ ps
+  pub with_equal : (text : List ℕ) (x : T) (p : List ℕ × T) (ps : List (List ℕ × T)) → slice_cmp nat_cmp text p.0 ≡ Equal → with_at text x (p ∷ ps) ≡ (text, x) ∷ ps
   with_equal text x p ps h = rw h refl
 
-  with_greater : (text : List ℕ) (x : T) (p : List ℕ × T) (ps : List (List ℕ × T)) → slice_cmp nat_cmp text p.0 ≡ Greater → with_at text x (p ∷ ps) ≡ p ∷ with_at text x ps
+  pub with_greater : (text : List ℕ) (x : T) (p : List ℕ × T) (ps : List (List ℕ × T)) → slice_cmp nat_cmp text p.0 ≡ Greater → with_at text x (p ∷ ps) ≡ p ∷ with_at text x ps
   with_greater text x p ps h = rw h refl
 
-  at_first : (text : List ℕ) (p : List ℕ × T) (ps : List (List ℕ × T)) → bytes_eq text p.0 ≡ true → at_text text (p ∷ ps) ≡ Some p.1
+  pub at_first : (text : List ℕ) (p : List ℕ × T) (ps : List (List ℕ × T)) → bytes_eq text p.0 ≡ true → at_text text (p ∷ ps) ≡ Some p.1
   at_first text p ps h = rw h refl
 
-  at_more : (text : List ℕ) (p : List ℕ × T) (ps : List (List ℕ × T)) → bytes_eq text p.0 ≡ false → at_text text (p ∷ ps) ≡ at_text text ps
+  pub at_more : (text : List ℕ) (p : List ℕ × T) (ps : List (List ℕ × T)) → bytes_eq text p.0 ≡ false → at_text text (p ∷ ps) ≡ at_text text ps
   at_more text p ps h = rw h refl
 
   pub inserted_with : (text : List ℕ) (x : T) (all : List (List ℕ × T)) (at : ℕ) → IsMissedAt text all at → insert all at (text, x) ≡ with_at text x all
@@ -197,7 +197,7 @@ module _ {T : Type 0} where
       at_more text p ps (eq_of_greater text p.0 (before_place text p (h.place.below 0 p (omega arith) (omega arith))))
       ∙ held_there text ps at d (held_inside text p ps at h)
 
-  none_later : (text : List ℕ) (all : List (List ℕ × T)) → AllLater text all → at_text text all ≡ None
+  pub none_later : (text : List ℕ) (all : List (List ℕ × T)) → AllLater text all → at_text text all ≡ None
   none_later text [] later = refl
   none_later text (p ∷ ps) later = at_more text p ps (eq_of_less text p.0 later.0) ∙ none_later text ps later.1
 

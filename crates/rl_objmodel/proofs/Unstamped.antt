@@ -24,7 +24,7 @@ use Rattle.rl_objmodel.specs.Operations.{id_in, is_create, is_delete}
 use Rattle.rl_objmodel.specs.Held.{Written, Value, Removed, Write, value_written, removal, value_in, Cells, shown_cell, HeldBody, Sum, Keys, Held, empty_body, shown_body, shown}
 use Rattle.rl_objmodel.specs.Objects.{greater}
 use Rattle.rl_objmodel.specs.Places.{at_text, with_at}
-use Rattle.rl_objmodel.specs.Steps.{passes, with_site, added, with_write, with_writes, entry_writes, on_cells, on_sum, body_passes_range, is_misplaced, outcome, emptied, changed, body_after, created_after, deleted_after, held_with, new_held, held_at, target, with_held, pool_outcome_by, pool_if, pool_with, pool_after_op, states}
+use Rattle.rl_objmodel.specs.Steps.{passes, with_site, added, with_write, with_writes, entry_writes, on_cells, on_sum, body_passes_range, is_misplaced, outcome, emptied, changed, body_after, created_after, deleted_after, held_with, new_held, held_at, target, with_held, pool_outcome_by, pool_if, pool_with, pool_after_op, states, told_write}
 
 -- FORGOTTEN
 
@@ -252,3 +252,44 @@ cons_state x y xs ys h k = cc
 pub states_same : (pool : Pool) → states (no_stamps pool) ≡ states pool
 states_same [] = refl
 states_same (held ∷ pool) = cons_state _ _ _ _ (held_shown held) (states_same pool)
+
+-- PAGES TELL ALL BUT THE MOMENTS
+
+abbrev body_told : ObjectBody → HeldBody
+body_told (bodies.Counter sum) = Sum sum
+body_told (bodies.Map cells) = Keys (map (told_write 0) cells)
+
+abbrev deleted_told : Bool → Option ℕ
+deleted_told true = Some 0
+deleted_told false = None
+
+abbrev told : ObjectState → Held
+told state = record { id = state.id; sites = state.sites; deleted = deleted_told state.tombstone; created = state.created; body = body_told state.body }
+
+cell_told : (serial : OpSerial) (key : List ℕ) (written : Written) → no_cell (key, record { serial = serial; written = written }) ≡ told_write 0 (shown_cell (key, record { serial = serial; written = written }))
+cell_told serial key (Value value) = refl
+cell_told serial key (Removed stamp) = refl
+
+cells_told : (cells : Cells) → map no_cell cells ≡ map (told_write 0) (map shown_cell cells)
+cells_told [] = refl
+cells_told (cell ∷ cells) = ap (λ (c : List ℕ × Write). c ∷ map no_cell cells) (cell_told cell.1.serial cell.0 cell.1.written) ∙ ap (λ (cs : Cells). told_write 0 (shown_cell cell) ∷ cs) (cells_told cells)
+
+all_told : (body : HeldBody) → no_body body ≡ body_told (shown_body body)
+all_told (Sum sum) = refl
+all_told (Keys cells) = ap Keys (cells_told cells)
+
+when_told : (deleted : Option ℕ) → no_deleted deleted ≡ deleted_told (is_some deleted)
+when_told None = refl
+when_told (Some stamp) = refl
+
+held_told : (held : Held) → unstamped held ≡ told (shown held)
+held_told held =
+    ap (λ (deleted : Option ℕ). record (unstamped held) { deleted = deleted }) (when_told held.deleted)
+    ∙ ap (λ (body : HeldBody). record (told (shown held)) { body = body }) (all_told held.body)
+
+pool_told : (pool : Pool) → no_stamps pool ≡ map told (states pool)
+pool_told [] = refl
+pool_told (held ∷ pool) = ap (λ (h : Held). h ∷ no_stamps pool) (held_told held) ∙ ap (λ (p : Pool). told (shown held) ∷ p) (pool_told pool)
+
+pub shown_alike : (pool other : Pool) → states pool ≡ states other → no_stamps pool ≡ no_stamps other
+shown_alike pool other same = pool_told pool ∙ ap (map told) same ∙ sym (pool_told other)

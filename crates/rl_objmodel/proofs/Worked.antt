@@ -88,11 +88,17 @@ unfolding digits is_utf8 chars encode
 pools_are_bounded = record {
   objects = refl;
   more_objects = refl;
+  tombstones = refl;
   cells = refl;
   more_cells = refl;
   weight = refl;
   more_weight = refl;
   value_weight = refl;
+  removed_weight = refl;
+  more_removed = refl;
+  other_weight = refl;
+  all_weight = refl;
+  more_all_weight = refl;
 }
 
 pub tombstones_are_collected : TombstonesAreCollected
@@ -136,6 +142,7 @@ steps_are_taken = record {
   greatest = refl;
   either = refl;
   told = refl;
+  told_twice = refl;
   replaces = refl;
   sites = refl;
 }

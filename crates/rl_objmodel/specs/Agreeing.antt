@@ -53,8 +53,8 @@ abbrev pub NonePasses : List Stamped → List Held → Type 0
 NonePasses [] pool = ⊤
 NonePasses (one ∷ more) pool = (is_range (pool_outcome one.op pool) ≡ false) × NonePasses more (pool_after_op one.stamp one.op pool)
 
--- pools that began equal, and took lists that have each site's operations in the same order, show the same, whenever
+-- pools that showed the same, and took lists that have each site's operations in the same order, show the same, whenever
 -- they took them, where no object is created twice, no sum passes its range and nothing is collected
 abbrev pub PoolsAgree : Type 0
-PoolsAgree = (xs ys : List Stamped) (pool : List Held) → SameBySite (ops_of xs) (ops_of ys) → CreatesOnce (ops_of xs) → AreInRange (ops_of xs)
-    → NonePasses xs pool → NonePasses ys pool → states (pool_taking xs pool) ≡ states (pool_taking ys pool)
+PoolsAgree = (xs ys : List Stamped) (pool other : List Held) → states pool ≡ states other → SameBySite (ops_of xs) (ops_of ys) → CreatesOnce (ops_of xs)
+    → AreInRange (ops_of xs) → NonePasses xs pool → NonePasses ys other → states (pool_taking xs pool) ≡ states (pool_taking ys other)

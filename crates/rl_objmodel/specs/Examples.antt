@@ -175,18 +175,35 @@ heavy_cell key value = (long key, record { serial = serial_at s1 1 0; value = So
 abbrev pub map_of : List (List ℕ × MapCell) → ObjectState
 map_of cells = record { id = m; sites = []; tombstone = false; created = true; body = bodies.Map cells }
 
+abbrev pub removed_cell : List ℕ × MapCell
+removed_cell = ([], record { serial = serial_at s1 1 0; value = None })
+
 abbrev pub cells_of : ℕ → ObjectState
 cells_of count = map_of (replicate count (heavy_cell 0 0))
 
+-- of the weight 524,288, an eighth of what a pool may weigh
+abbrev pub heavy_map : ObjectState
+heavy_map = map_of (heavy_cell 0 7936 ∷ replicate 63 (heavy_cell 0 8064))
+
 pub record PoolsAreBounded : Type 0 where
-  pub objects : pool_rule (replicate 2000 (map_of [])) ≡ None
-  pub more_objects : pool_rule (replicate 2001 (map_of [])) ≡ Some 112
-  pub cells : pool_rule (replicate 5 (cells_of 2000)) ≡ None
-  pub more_cells : pool_rule (cells_of 1 ∷ replicate 5 (cells_of 2000)) ≡ Some 112
+  pub objects : pool_rule None (replicate 2000 (map_of [])) ≡ None
+  pub more_objects : pool_rule None (replicate 2001 (map_of [])) ≡ Some 112
+  -- tombstones count
+  pub tombstones : pool_rule None (replicate 2001 (record (map_of []) { tombstone = true })) ≡ Some 112
+  pub cells : pool_rule None (replicate 5 (cells_of 2000)) ≡ None
+  pub more_cells : pool_rule None (cells_of 1 ∷ replicate 5 (cells_of 2000)) ≡ Some 112
   -- 128, and 2,046 cells of 128, and one of 128
-  pub weight : pool_rule (cells_of 2047 ∷ []) ≡ None
-  pub more_weight : pool_rule (map_of (heavy_cell 1 0 ∷ replicate 2046 (heavy_cell 0 0)) ∷ []) ≡ Some 112
-  pub value_weight : pool_rule (map_of (heavy_cell 0 1 ∷ replicate 2046 (heavy_cell 0 0)) ∷ []) ≡ Some 112
+  pub weight : pool_rule (Some (cells_of 2047)) [] ≡ None
+  pub more_weight : pool_rule (Some (map_of (heavy_cell 1 0 ∷ replicate 2046 (heavy_cell 0 0)))) [] ≡ Some 112
+  pub value_weight : pool_rule (Some (map_of (heavy_cell 0 1 ∷ replicate 2046 (heavy_cell 0 0)))) [] ≡ Some 112
+  -- tombstone cells weigh 128 and their keys
+  pub removed_weight : pool_rule (Some (map_of (replicate 2047 removed_cell))) [] ≡ None
+  pub more_removed : pool_rule (Some (map_of (replicate 2048 removed_cell))) [] ≡ Some 112
+  -- of one object's weight the operation's own counts, and no other
+  pub other_weight : pool_rule (Some (map_of [])) (cells_of 2048 ∷ []) ≡ None
+  -- the weight of all
+  pub all_weight : pool_rule None (replicate 8 heavy_map) ≡ None
+  pub more_all_weight : pool_rule None (map_of [] ∷ replicate 8 heavy_map) ≡ Some 112
 
 -- WHAT IS COLLECTED
 
@@ -269,9 +286,11 @@ pub record StepsAreTaken : Type 0 where
   pub greatest : pool_outcome (op_at s1 2 (CounterInc a (pos 1))) (held_counter s1 1 (pos 1267650600228229401496703205375) ∷ []) ≡ outcomes.Applied
   -- of two sites' values at one key the one of the greater serial stays, in whatever order they come
   pub either : pool_after 0 (op_at s1 3 (MapSet Root k (text s1)) ∷ two_sites ∷ []) (bare_root ∷ []) ≡ pool_after 0 (two_sites ∷ op_at s1 3 (MapSet Root k (text s1)) ∷ []) (bare_root ∷ [])
-  -- what a page tells is put in order: of two of one key or one site the one of the greater serial stays
+  -- what a page tells is put in order; of two of one key the one of the greater serial stays
   pub told : told_cells 9 ((codes "l", record { serial = serial_at s1 2 0; value = None }) ∷ (k, record { serial = serial_at s1 1 0; value = Some (text []) }) ∷ [])
       ≡ (k, value_written (serial_at s1 1 0) (text [])) ∷ (codes "l", removal (serial_at s1 2 0) 9) ∷ []
+  pub told_twice : told_cells 9 ((k, record { serial = serial_at s1 2 0; value = None }) ∷ (k, record { serial = serial_at s1 1 0; value = Some (text []) }) ∷ [])
+      ≡ (k, removal (serial_at s1 2 0) 9) ∷ []
   -- an object whose body is not of its id's kind is passed over, of two of one id the last counts, and there is a root
   pub replaces : replaced 9 (told_counter 1 ∷ told_counter 2 ∷ record (told_counter 3) { id = m } ∷ []) ≡ held_counter s1 1 (pos 2) ∷ bare_root ∷ []
   pub sites : sites_of ((s2, serial_at s2 2 0) ∷ (s1, serial_at s1 1 0) ∷ (s2, serial_at s2 1 0) ∷ []) ≡ (s1, serial_at s1 1 0) ∷ (s2, serial_at s2 2 0) ∷ []

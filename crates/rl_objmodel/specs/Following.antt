@@ -12,8 +12,8 @@ use Rattle.rl_types.specs.declared.objects.ObjectOp.{ObjectOp}
 use Rattle.rl_types.specs.declared.objects.ObjectState.{ObjectState}
 use Rattle.rl_objmodel.specs.Operations.{Stamped, stamped_at, id_in, id_of, own, creates, deletes, values_of, suits, is_root}
 use Rattle.rl_objmodel.specs.Held.{is_collected}
-use Rattle.rl_objmodel.specs.Objects.{sum_of, serials, all_kept, kept_object, kept_objects}
-use Rattle.rl_objmodel.specs.Rules.{Setting, or_next, length_rule, target_rule, values_rule, range_rule, op_rule, serial_at, entering, ops_rule}
+use Rattle.rl_objmodel.specs.Objects.{sum_of, serials, all_kept, kept_object}
+use Rattle.rl_objmodel.specs.Rules.{Setting, or_next, length_rule, target_rule, values_rule, range_rule, serial_at, entering, entering_rule, ops_rule}
 use Rattle.rl_objmodel.specs.Steps.{is_past_range, pool_after_op, pool_ops_rule}
 
 -- the object was not named before, and is not the root
@@ -69,7 +69,7 @@ abbrev pub MayFollow : Setting → ℕ → ℕ → List Stamped → List ObjectO
 MayFollow setting place index latest [] = ⊤
 MayFollow setting place index latest (op ∷ ops) =
     (rules_before setting.now (kept_object setting.ticked latest) op.op ≡ None → Follows setting.ticked (serial_at setting.site place index) op.op setting.now (own (id_in op.op) latest))
-    × (op_rule setting.now (kept_object setting.ticked latest) (kept_objects setting.ticked (entering setting place index op ∷ latest)) op.op ≡ None → MayFollow setting place (suc index) (entering setting place index op ∷ latest) ops)
+    × (entering_rule setting place index latest op ≡ None → MayFollow setting place (suc index) (entering setting place index op ∷ latest) ops)
 
 abbrev pub IsValueInRange : MapValue → Type 0
 IsValueInRange (values.Ref id) = IsIdInRange id

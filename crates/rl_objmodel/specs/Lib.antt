@@ -9,3 +9,4 @@ pub mod Commuting
 pub mod Collecting
 pub mod Agreeing
 pub mod Following
+pub mod Lasting

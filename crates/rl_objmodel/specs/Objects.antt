@@ -1,5 +1,5 @@
 -- The objects that operations leave (RTO): counters (RTLC), maps (RTLM) and tombstones. Operations are given the latest
--- first.
+-- first, and are those that passed the rules: of one id there is at most one create, and at most one deletion.
 use Rattle.std.specs.Prelude.{ℕ, Bool, true, false, ◌&&◌, ◌||◌, not, if◌then◌else◌, List, [], ◌∷◌, ◌++◌, filter, filter_map, find, map, reverse, Option, Some, None, option_map, option_and_then, bytes_eq, ℤ, pos, ◌+ℤ◌}
 use Rattle.std.specs.List.{list_any}
 use Rattle.std.specs.Ordering.{nat_cmp, match_ordering}

@@ -1,5 +1,5 @@
 -- Lists of texts with something at each, in order of text, each text once: the sites of an object, the cells of a map.
-use Rattle.std.specs.Prelude.{◌≡◌, ℕ, ◌<◌, ◌≤◌, Bool, true, false, if◌then◌else◌, List, [], ◌∷◌, length, ⊤, Option, Some, None, bytes_eq, slice_index_or, Result, MatchResult}
+use Rattle.std.specs.Prelude.{◌≡◌, ℕ, ◌<◌, ◌≤◌, Bool, true, false, if◌then◌else◌, List, [], ◌∷◌, length, ⊤, Option, Some, None, bytes_eq, remove, slice_index_or, slice_set, Result, MatchResult}
 use Rattle.std.specs.List.{AllByRecursion, AllWithin}
 use Rattle.std.specs.declared.cmp.Ordering.TheVariants.{Less}
 use Rattle.std.specs.Ordering.{nat_cmp, match_ordering, is_lt}
@@ -15,6 +15,21 @@ abbrev pub with_at : {T : Type 0} → List ℕ → T → List (List ℕ × T) �
 with_at text x [] = (text, x) ∷ []
 with_at text x (one ∷ all) =
     match_ordering (slice_cmp nat_cmp text one.0) ((text, x) ∷ one ∷ all) ((text, x) ∷ all) (one ∷ with_at text x all)
+
+-- without what is at a text
+abbrev pub without_at : {T : Type 0} → List ℕ → List (List ℕ × T) → List (List ℕ × T)
+without_at text [] = []
+without_at text (one ∷ all) = if bytes_eq text one.0 then all else one ∷ without_at text all
+
+-- with this at a text, or with nothing there
+abbrev pub restored_at : {T : Type 0} → List ℕ → Option T → List (List ℕ × T) → List (List ℕ × T)
+restored_at text None all = without_at text all
+restored_at text (Some x) all = with_at text x all
+
+-- a place with this at a text, or without what was there
+abbrev pub placed_back : {T : Type 0} → ℕ → List ℕ → Option T → List (List ℕ × T) → List (List ℕ × T)
+placed_back at text None all = remove all at
+placed_back at text (Some x) all = slice_set all at (text, x)
 
 -- each text comes before all later ones
 abbrev pub AreRising : {T : Type 0} → List (List ℕ × T) → Type 0

@@ -2,6 +2,7 @@
 -- are after the earlier ones of its frame. (The rules and their limits are this project's own.)
 use Rattle.std.specs.Prelude.{ℕ, suc, ◌+◌, Bool, true, false, ◌||◌, not, nat_lt, List, [], ◌∷◌, length, sum_by, Option, Some, None, is_some, ℤ, pos, ◌+ℤ◌, unsigned_abs}
 use Rattle.std.specs.List.{list_any}
+use Rattle.std.specs.Option.{option_map_or}
 use Rattle.rl_numbers.specs.declared.codes.TheConstants.{TOO_LONG, UNKNOWN_OBJECT, DUPLICATE_OBJECT, STALE_ID, RANGE, WRONG_KIND, TOMBSTONED, POOL_LIMIT}
 use Rattle.rl_numbers.specs.declared.limits.TheConstants.{MAX_VALUE_SIZE, MAX_ID_SKEW, MAX_OBJECT_NUMBER, MAX_OBJECTS, MAX_MAP_CELLS, MAX_OBJECT_WEIGHT, MAX_POOL_WEIGHT}
 use Rattle.rl_ids.specs.declared.objects.ObjectKind.{ObjectKind}
@@ -19,7 +20,7 @@ use Rattle.rl_types.specs.declared.objects.ObjectBody.{ObjectBody}
 use Rattle.rl_types.specs.declared.objects.ObjectBody.TheVariants as bodies
 use Rattle.rl_types.specs.declared.objects.ObjectState.{ObjectState}
 use Rattle.rl_types.specs.Weight.{state_weight}
-use Rattle.rl_objmodel.specs.Operations.{Stamped, stamped_at, keys_of, values_of, is_root}
+use Rattle.rl_objmodel.specs.Operations.{Stamped, stamped_at, id_in, keys_of, values_of, is_root}
 use Rattle.rl_objmodel.specs.Objects.{kept_object, kept_objects}
 
 -- where operations are judged: the channel's site, and what its clock shows, now and at the last Tick
@@ -116,7 +117,8 @@ range_rule found (CounterCreate id count) = fails_if RANGE (is_wide count)
 range_rule found (CounterInc id amount) = fails_if RANGE (is_wide amount || is_wide (sum_in (found id) +ℤ amount))
 range_rule found op = fails_if RANGE (list_any is_wide_value (values_of op))
 
--- POOL_LIMIT, by the objects as they are after the operation, the root and tombstones among them
+-- POOL_LIMIT, by the objects as they are after the operation, the root and tombstones among them. Of one object's
+-- weight, that of the operation's own object counts
 
 abbrev pub cells_held : ObjectBody → ℕ
 cells_held (bodies.Counter sum) = 0
@@ -128,24 +130,24 @@ cells_in state = cells_held state.body
 abbrev pub is_heavy : ObjectState → Bool
 is_heavy state = nat_lt MAX_OBJECT_WEIGHT (state_weight state)
 
-abbrev pub pool_rule : List ObjectState → Option ℕ
-pool_rule states =
+abbrev pub pool_rule : Option ObjectState → List ObjectState → Option ℕ
+pool_rule target states =
     fails_if POOL_LIMIT
     (nat_lt MAX_OBJECTS (length states)
     || nat_lt MAX_MAP_CELLS (sum_by cells_in states)
-    || list_any is_heavy states
+    || option_map_or is_heavy target false
     || nat_lt MAX_POOL_WEIGHT (sum_by state_weight states))
 
 -- ALL OF THEM
 
--- by the clock, what is found of each id, and the objects as they are after the operation
-abbrev pub op_rule : ℕ → (ObjectId → Option ObjectState) → List ObjectState → Op → Option ℕ
-op_rule now found after op =
+-- by the clock, what is found of each id, and the operation's own object and all objects as they are after it
+abbrev pub op_rule : ℕ → (ObjectId → Option ObjectState) → Option ObjectState → List ObjectState → Op → Option ℕ
+op_rule now found target after op =
     or_next (length_rule op)
     (or_next (target_rule now found op)
     (or_next (values_rule found (values_of op))
     (or_next (range_rule found op)
-    (pool_rule after))))
+    (pool_rule target after))))
 
 -- the serial of an operation that is added: the place of its entry, its index there, and the site
 abbrev pub serial_at : List ℕ → ℕ → ℕ → OpSerial
@@ -158,9 +160,17 @@ with_serial serial op = record op { serial = Some serial }
 abbrev pub entering : Setting → ℕ → ℕ → ObjectOp → Stamped
 entering setting place index op = stamped_at setting.now (with_serial (serial_at setting.site place index) op)
 
+-- the code of the first rule that an operation breaks, as the one of this index of the entry at this place, after these
+abbrev pub entering_rule : Setting → ℕ → ℕ → List Stamped → ObjectOp → Option ℕ
+entering_rule setting place index latest op =
+    op_rule setting.now (kept_object setting.ticked latest)
+    (kept_object setting.ticked (entering setting place index op ∷ latest) (id_in op.op))
+    (kept_objects setting.ticked (entering setting place index op ∷ latest))
+    op.op
+
 -- the code of the first rule that operations break: those of the entry at a place, from an index on, after these
 abbrev pub ops_rule : Setting → ℕ → ℕ → List Stamped → List ObjectOp → Option ℕ
 ops_rule setting place index latest [] = None
 ops_rule setting place index latest (op ∷ ops) =
-    or_next (op_rule setting.now (kept_object setting.ticked latest) (kept_objects setting.ticked (entering setting place index op ∷ latest)) op.op)
+    or_next (entering_rule setting place index latest op)
     (ops_rule setting place (suc index) (entering setting place index op ∷ latest) ops)

@@ -381,11 +381,15 @@ states pool = map shown pool
 abbrev pub numbered : Setting → ℕ → ℕ → ObjectOp → ObjectOp
 numbered setting place index op = with_serial (serial_at setting.site place index) op
 
+-- the code of the first rule that an operation breaks, by the objects before it and after it
+abbrev pub pool_op_rule : ℕ → List Held → List Held → Op → Option ℕ
+pool_op_rule now pool after op = op_rule now (state_at pool) (state_at after (id_in op)) (states after) op
+
 -- the code of the first rule that operations break, as `ops_rule` says it of the operations that left these objects
 abbrev pub pool_ops_rule : Setting → ℕ → ℕ → List Held → List ObjectOp → Option ℕ
 pool_ops_rule setting place index pool [] = None
 pool_ops_rule setting place index pool (op ∷ ops) =
-    or_next (op_rule setting.now (state_at pool) (states (pool_after_op setting.now (numbered setting place index op) pool)) op.op)
+    or_next (pool_op_rule setting.now pool (pool_after_op setting.now (numbered setting place index op) pool) op.op)
     (pool_ops_rule setting place (suc index) (pool_after_op setting.now (numbered setting place index op) pool) ops)
 
 -- WHAT IS LIVE

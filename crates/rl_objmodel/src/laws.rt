@@ -3,6 +3,7 @@ ghost use Rattle.rl_objmodel.specs.Agreeing.{PoolsAgree};
 ghost use Rattle.rl_objmodel.specs.Collecting.{LastTickCounts, TicksCollect};
 ghost use Rattle.rl_objmodel.specs.Commuting.{EitherOrder};
 ghost use Rattle.rl_objmodel.specs.Following.{OneMore, RulesAgree};
+ghost use Rattle.rl_objmodel.specs.Lasting.{EntriesFollow, EntriesKept, EntriesLast, LastingLonger};
 ghost use Rattle.rl_objmodel.specs.Examples.{CountersCount, CellsAreGreatest, LengthsAreBounded, TargetsAreJudged, ReferencesAreJudged, NumbersAreBounded, PoolsAreBounded, TombstonesAreCollected, LiveObjectsRead, StepsAreDefined, StepsAreTaken};
 
 /// What counters have: the count of their create, and the amounts of their increments.
@@ -78,7 +79,7 @@ pub fn either_order()
     ensures { EitherOrder }
 {}
 
-/// Pools that began equal, and took lists that have each site's operations in the same order, show the same objects,
+/// Pools that showed the same objects, and took lists that have each site's operations in the same order, show the same,
 /// whenever they took them, where no object is created twice, no sum passes its range and nothing is collected.
 #[tactic(auto, using(crate::proofs::AgreeingStates::pools_agree))]
 pub fn pools_agree()
@@ -107,4 +108,28 @@ pub fn one_more()
 #[tactic(auto, using(crate::proofs::FollowingRules::rules_agree))]
 pub fn rules_agree()
     ensures { RulesAgree }
+{}
+
+/// Where the objects of a log lasted, the operations of its next entry may follow, as long as they pass the rules.
+#[tactic(auto, using(crate::proofs::Lasting::entries_follow))]
+pub fn entries_follow()
+    ensures { EntriesFollow }
+{}
+
+/// Where the objects of a log lasted, and the operations of its next entry pass the rules, its objects last with them.
+#[tactic(auto, using(crate::proofs::Lasting::entries_last))]
+pub fn entries_last()
+    ensures { EntriesLast }
+{}
+
+/// The objects of a log last while the clock goes on.
+#[tactic(auto, using(crate::proofs::Lasting::lasting_longer))]
+pub fn lasting_longer()
+    ensures { LastingLonger }
+{}
+
+/// What is kept of a log with one more entry is what the steps make of what was kept.
+#[tactic(auto, using(crate::proofs::FollowingRules::entries_kept))]
+pub fn entries_kept()
+    ensures { EntriesKept }
 {}

@@ -19,11 +19,13 @@ use Rattle.rl_types.specs.declared.messages.Body.TheVariants.{Messages, Presence
 use Rattle.rl_types.specs.declared.presence.PresenceItem.{PresenceItem}
 use Rattle.rl_types.specs.declared.presence.PresenceAction.{PresenceAction}
 use Rattle.rl_types.specs.declared.presence.PresenceAction.TheVariants as presence
-use Rattle.rl_model.specs.History.{clock, setting, Setting}
+use Rattle.rl_objmodel.specs.Rules.{Setting}
+use Rattle.rl_model.specs.Objects.{object_rule}
+use Rattle.rl_model.specs.History.{clock, setting}
 use Rattle.rl_model.specs.Texts.{made_id, gone_id}
 use Rattle.rl_model.specs.Ids.{filled_presence, has_long}
 use Rattle.rl_model.specs.Members.{is_of, is_on, enters, members, items_of, presence_of}
-use Rattle.rl_model.specs.Verdict.{Decision, entries, kept, kept_at, Judgement, Stale, Again, Known, Fails, Adds, is_put, is_bad_action, has_no_client, judged_by_rules, judged_by_id, judged_by_serial, judged, verdict_at, entry_if, entry_of, leaves, gone_entry, entry_of_gone, members_on, decided, decisions, log, remembered_of, limit_rule, object_rule, fails_or, told}
+use Rattle.rl_model.specs.Verdict.{Decision, entries, kept, kept_at, Judgement, Stale, Again, Known, Fails, Adds, is_put, is_bad_action, has_no_client, judged_by_rules, judged_by_id, judged_by_serial, judged, verdict_at, entry_if, entry_of, leaves, gone_entry, entry_of_gone, members_on, decided, decisions, log, remembered_of, limit_rule, fails_or, told}
 use Rattle.rl_presmap.specs.Newness.{numbers_of, is_newer_by, is_newer}
 use Rattle.rl_presmap.specs.Renewing.{has_gone, AddsInTime, IsOrderly, IsHeldByTypes, items_of_key, Renews, AreRenewing, OrderlyLogsRenew}
 use Rattle.rl_presmap.proofs.Ids.{numbers_of_put, numbers_of_gone}
@@ -419,7 +421,7 @@ kept_more serial Adds last next is m has = not_stale serial last next Adds is (�
 -- what the rules other than that on serials decide
 abbrev by_body : Setting → List Decision → ℕ → Body → Judgement
 by_body s before conn body =
-    judged_by_rules (length (entries before)) body (fails_or (limit_rule (told before) conn body) (fails_or (object_rule s body) Adds))
+    judged_by_rules (length (entries before)) body (fails_or (limit_rule (told before) conn body) (fails_or (object_rule s (entries before) body) Adds))
 
 abbrev by_others : Setting → List Decision → ℕ → Body → Judgement
 by_others s before conn body = judged_by_id (remembered_of body before) (by_body s before conn body)
@@ -468,7 +470,7 @@ presence_goes_in site key past s conn serial stamp items small short few later f
 
     may : list_any is_bad_action items ≡ false
     may =
-        rules_pass (length (entries (decisions site past))) items (fails_or (limit_rule (told (decisions site past)) conn (Presence items)) (fails_or (object_rule s (Presence items)) Adds))
+        rules_pass (length (entries (decisions site past))) items (fails_or (limit_rule (told (decisions site past)) conn (Presence items)) (fails_or (object_rule s (entries (decisions site past)) (Presence items)) Adds))
         (id_passes (remembered_of (Presence items) (decisions site past)) (by_body s (decisions site past) conn (Presence items)) new.0)
 
     all : Each (IsPutItem serial stamp 0) (filter (is_of key) (filled_presence conn serial stamp 0 items))

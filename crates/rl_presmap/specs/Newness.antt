@@ -1,6 +1,7 @@
 -- Which of two presence items of one member is the newer one (RTP2b).
 use Rattle.std.specs.Prelude.{ℕ, Bool, ◌&&◌, ◌||◌, ◌==◌, if◌then◌else◌, nat_lt, nat_le, List, length, take, drop, Option, Some, None, option_and_then, codes, bytes_eq}
 use Rattle.std.specs.List.{list_all, before_first, after_first}
+use Rattle.rl_base.specs.declared.numerals.TheConstants.{MAX_PADDED_DIGITS}
 use Rattle.rl_base.specs.Digits.{is_digit, spelled}
 use Rattle.rl_types.specs.declared.presence.PresenceItem.{PresenceItem}
 
@@ -10,13 +11,9 @@ use Rattle.rl_types.specs.declared.presence.PresenceItem.{PresenceItem}
 abbrev pub rest_after : List ℕ → List ℕ → Option (List ℕ)
 rest_after prefix text = if bytes_eq (take (length prefix) text) prefix then Some (drop (length prefix) text) else None
 
--- as many digits as spell a number that 128 bits always hold
-abbrev pub most_digits : ℕ
-most_digits = 38
-
--- 1 to 38 decimal digits, with leading zeros where there are any
+-- 1 to 38 decimal digits, which 128 bits always hold, with leading zeros where there are any
 abbrev pub is_number : List ℕ → Bool
-is_number text = nat_lt 0 (length text) && nat_le (length text) most_digits && list_all is_digit text
+is_number text = nat_lt 0 (length text) && nat_le (length text) MAX_PADDED_DIGITS && list_all is_digit text
 
 abbrev pub number : List ℕ → Option ℕ
 number text = if is_number text then Some (spelled 10 text) else None

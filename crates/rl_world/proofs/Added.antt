@@ -25,7 +25,8 @@ use Rattle.rl_numbers.specs.declared.codes.TheConstants.{LOG_FULL, TOO_LONG}
 use Rattle.rl_types.specs.declared.objects.ObjectOp.{ObjectOp}
 use Rattle.rl_model.specs.History.{clock, setting}
 use Rattle.rl_model.specs.Records.{the_site}
-use Rattle.rl_model.specs.Verdict.{Judgement, Stale, Again, Known, Fails, Adds, judged, judged_by_serial, judged_by_id, judged_by_rules, own_rule, fails_or, limit_rule, object_rule, told, kept, remembered_of, decisions, entry_if, entry_of, log, head}
+use Rattle.rl_model.specs.Objects.{object_rule}
+use Rattle.rl_model.specs.Verdict.{Judgement, Stale, Again, Known, Fails, Adds, judged, judged_by_serial, judged_by_id, judged_by_rules, own_rule, fails_or, limit_rule, told, kept, remembered_of, decisions, entry_if, entry_of, log, head}
 use Rattle.rl_model.specs.Window.{entry_weight, fits, fits_at, first, first_after, first_next, least_place}
 use Rattle.rl_model.specs.Parts.{Parts, parts_of, read_in, retained}
 use Rattle.rl_claims.proofs.Runs.{log_grows}
@@ -226,7 +227,7 @@ put_stays past conn serial body now small = by_judgement (judged (setting the_si
     by_judgement Adds is =
         let before = first_within past in
         let still = before.within in
-        let light : body_weight body ≤ MAX_MESSAGE_SIZE = serial_light serial (kept conn (decisions the_site past)) (remembered_of body (decisions the_site past)) (head the_site past) body (fails_or (limit_rule (told (decisions the_site past)) conn body) (fails_or (object_rule (setting the_site (Put conn serial body now ∷ past)) body) Adds)) is in
+        let light : body_weight body ≤ MAX_MESSAGE_SIZE = serial_light serial (kept conn (decisions the_site past)) (remembered_of body (decisions the_site past)) (head the_site past) body (fails_or (limit_rule (told (decisions the_site past)) conn body) (fails_or (object_rule (setting the_site (Put conn serial body now ∷ past)) (log the_site past) body) Adds)) is in
         let fit : fits (entry ∷ []) ≡ true = one_fits entry (light_filled the_site (length (log the_site past) + 1) conn serial stamp body small light) in
         next_within (Put conn serial body now) stamp (nat_lt (head the_site past) (length (log the_site past ++ entry ∷ []))) (log the_site past ++ entry ∷ []) (first the_site past) (head the_site past + 1)
         (put_next conn serial body now stamp (nat_lt (head the_site past) (length (log the_site past ++ entry ∷ []))) (log the_site past ++ entry ∷ []) (first the_site past))

@@ -1,8 +1,7 @@
 ghost use Rattle.std.specs.Prelude.{◌≡◌, ◌-◌, Bool, List, Option, IfOk, drop, length, option_map, [], ◌∷◌};
 ghost use Rattle.std.specs.Option.{option_to_list};
-ghost use Rattle.rl_model.specs.Findings.{client_shown, clients_shown, conn_shown, held_serial, is_attached, view_of, views_in};
+ghost use Rattle.rl_model.specs.Findings.{client_shown, clients_shown, conn_shown, held_serial, is_attached, objects_known, view_of, views_in};
 ghost use Rattle.rl_model.specs.Client.{pending};
-ghost use Rattle.rl_model.specs.Objects.{objects_kept};
 ghost use Rattle.rl_model.specs.Parts.{Parts, retained};
 ghost use Rattle.rl_chanlog.specs.Keeps.{Keeps};
 ghost use Rattle.rl_world.specs.Ends.{EndBy, EndsBy};
@@ -59,7 +58,7 @@ fn is_attached(state: ChanState) -> bool
 
 // The objects that the client knows: the root, since no script makes one yet.
 fn objects_of(alloc: Global) -> Result<List<ObjectState>, NoMemory>
-    ensures { IfOk result (λ objects. objects ≡ objects_kept) }
+    ensures { IfOk result (λ objects. objects ≡ objects_known) }
 {
     let mut objects = List::new(alloc);
     objects.push(ObjectState {
