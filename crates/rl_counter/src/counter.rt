@@ -36,8 +36,9 @@ impl Model for Counter {
     ghost invariant = { λ c. IsRising c.sites };
 }
 
-// What an operation adds: a create its count, where none was applied before.
-fn added(op: &Op, created: bool) -> Option<i64>
+/// What an operation adds to a counter (RTLC7): a create its count, where none was applied before, an increment its
+/// amount. An operation for maps, and a deletion, adds nothing. It takes no memory.
+pub fn added(op: &Op, created: bool) -> Option<i64>
     ensures { result ≡ added op.now created }
 {
     match op {
@@ -66,8 +67,9 @@ fn sum_with(sum: i128, amount: i64) -> Option<i128>
     }
 }
 
-// The sum after an operation, where it does not pass its range.
-fn sum_after(sum: i128, more: Option<i64>) -> Option<i128>
+/// The sum with what an operation adds, or nothing where the operation adds something and the sum would pass plus or
+/// minus [`MAX_COUNTER_SUM`]. (The range is this project's own.) It takes no memory.
+pub fn sum_after(sum: i128, more: Option<i64>) -> Option<i128>
     ensures { result ≡ sum_made sum more }
 {
     match more {

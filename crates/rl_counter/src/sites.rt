@@ -1,6 +1,6 @@
 ghost use Rattle.std.specs.Prelude.{◌≡◌, ◌<◌, ◌≤◌, bytes_eq, length, IfOk, OnOk, OnErr, IsOk, IsSome, MatchResult};
 ghost use Rattle.rl_ids.specs.Objects.{is_below};
-ghost use Rattle.rl_objmodel.specs.Places.{at_text, with_at, IsRising, IsPlace, FindsPlace, is_before};
+ghost use Rattle.rl_objmodel.specs.Places.{at_text, with_at, placed_back, restored_at, IsRising, IsPlace, FindsPlace, is_before};
 ghost use Rattle.rl_objmodel.specs.Steps.{passes, with_site, told_sites, sites_of, with_told_site};
 
 use rl_ids::{List, NoMemory, OpSerial, SiteCode};
@@ -48,7 +48,8 @@ fn find(sites: &[(SiteCode, OpSerial)], site: &SiteCode) -> Result<usize, usize>
     }
 }
 
-// The site test: the serial's site has none, or a smaller one.
+/// The site test (RTO9): of these sites, which are in order, the serial's own has none, or a smaller one. It looks at
+/// about log n of n sites, and takes no memory.
 pub fn is_newer(sites: &[(SiteCode, OpSerial)], serial: &OpSerial) -> bool
     ensures { IsRising sites.now → result ≡ passes serial.now sites.now }
 {
@@ -78,7 +79,8 @@ fn put_at(
     }
 }
 
-// Sets the serial of its own site.
+/// Sets the serial of its own site, among sites that are in order and stay so. `NoMemory` leaves them as before, and
+/// comes for a site that has no serial yet alone.
 pub fn put(sites: &mut List<(SiteCode, OpSerial)>, serial: OpSerial) -> Result<(), NoMemory>
     ensures ok { IsRising sites.old → OnOk result (sites.new ≡ with_site serial sites.old) }
     ensures rising { IsRising sites.old → IsRising sites.new }
@@ -86,6 +88,47 @@ pub fn put(sites: &mut List<(SiteCode, OpSerial)>, serial: OpSerial) -> Result<(
     ensures spare { IsRising sites.old → IsSome (at_text serial.site sites.old) → IsOk result }
 {
     put_at(sites, serial.site, serial)
+}
+
+/// The serial that a site has among sites that are in order, or none. It looks at about log n of n sites, and takes no
+/// memory.
+pub fn serial_of(sites: &[(SiteCode, OpSerial)], site: &SiteCode) -> Option<OpSerial>
+    ensures { IsRising sites.now → result ≡ at_text site.now sites.now }
+{
+    match find(sites, site) {
+        Ok(at) => Some(sites[at].1),
+        Err(_) => None,
+    }
+}
+
+// Puts back what a site at a place had.
+fn put_back_at(
+    sites: &mut List<(SiteCode, OpSerial)>,
+    at: usize,
+    site: &SiteCode,
+    before: Option<OpSerial>,
+)
+    requires { at < length sites.old }
+    ensures { sites.new ≡ placed_back at site.now before sites.old }
+{
+    match before {
+        Some(serial) => sites.set(at, (*site, serial)),
+        None => {
+            sites.remove(at);
+        }
+    }
+}
+
+/// Puts back what a site had: this serial, or none. The sites are in order and stay so. It takes no memory. Where the
+/// site has no serial, nothing changes.
+pub fn put_back(sites: &mut List<(SiteCode, OpSerial)>, site: &SiteCode, before: Option<OpSerial>)
+    ensures back { IsRising sites.old → IsSome (at_text site.now sites.old) → sites.new ≡ restored_at site.now before sites.old }
+    ensures rising { IsRising sites.old → IsRising sites.new }
+{
+    match find(sites.as_slice(), site) {
+        Ok(at) => put_back_at(sites, at, site, before),
+        Err(_) => {}
+    }
 }
 
 // Sets a site's serial, where the site has no greater one.
@@ -104,7 +147,8 @@ fn tell(sites: &mut List<(SiteCode, OpSerial)>, one: &(SiteCode, OpSerial)) -> R
     }
 }
 
-// Sites as they were told, in order; of one site the greatest serial.
+/// Sites as they were told, put in order; of one site the greatest serial stays. `NoMemory` comes where there is no
+/// memory.
 pub fn told(
     alloc: Global,
     sites: &[(SiteCode, OpSerial)],

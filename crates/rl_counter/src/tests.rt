@@ -1,5 +1,5 @@
 // What no clause says: that calls succeed where memory lasts.
-use crate::{Applied, Counter};
+use crate::{Applied, Counter, put, put_back, serial_of};
 use rl_ids::{Copied, List, NoMemory, ObjectId, OpSerial, Place, read_site};
 use rl_numbers::limits::MAX_COUNTER_SUM;
 use rl_types::{ObjectBody, ObjectState, Op};
@@ -53,5 +53,19 @@ fn operations_are_applied_once(rt: HostRuntime) -> Result<(), NoMemory> {
     let mut full = counter_of(alloc, MAX_COUNTER_SUM)?;
     assert!(rt; inc(&mut full, 1, 1) == Some(Applied::Range));
     assert!(rt; inc(&mut full, 0, 1) == Some(Applied::Applied));
+    Ok(())
+}
+
+#[test]
+fn what_a_site_had_is_put_back(rt: HostRuntime) -> Result<(), NoMemory> {
+    let alloc = rt.alloc();
+    let site = read_site("s1").ok_or(NoMemory)?;
+    let mut sites = List::new(alloc);
+    put(&mut sites, serial(1).ok_or(NoMemory)?)?;
+    put(&mut sites, serial(2).ok_or(NoMemory)?)?;
+    put_back(&mut sites, &site, serial(1));
+    assert!(rt; serial_of(sites.as_slice(), &site) == serial(1));
+    put_back(&mut sites, &site, None);
+    assert!(rt; serial_of(sites.as_slice(), &site).is_none());
     Ok(())
 }

@@ -1,8 +1,9 @@
 ghost use Rattle.std.specs.Prelude.{◌≡◌, ◌<◌, ℕ, List, if◌then◌else◌, length, remove, slice_index_or};
 ghost use Rattle.rl_objmodel.specs.Held.{Write, is_collected_write};
 ghost use Rattle.rl_objmodel.specs.Steps.{collected_cells, told_written};
-ghost use Rattle.rl_livemap.specs.Stamps.{stamped, IsKept};
+ghost use Rattle.rl_livemap.specs.Stamps.{stamped, IsKept, IsMap};
 
+use crate::weights::weigh;
 use rl_ids::{List, Moment, Text};
 use rl_numbers::limits::TOMBSTONE_GRACE;
 use rl_types::MapCell;
@@ -31,7 +32,7 @@ fn drop_at(cells: &mut List<(Text, MapCell)>, stamps: &mut List<Moment>, at: usi
 }
 
 // Drops each cell that is collected, the last first.
-pub fn drop_collected(cells: &mut List<(Text, MapCell)>, stamps: &mut List<Moment>, now: Moment)
+fn drop_collected(cells: &mut List<(Text, MapCell)>, stamps: &mut List<Moment>, now: Moment)
     requires { IsKept cells.old stamps.old }
     ensures cells { stamped cells.new stamps.new ≡ collected_cells now (stamped cells.old stamps.old) }
     ensures kept { IsKept cells.new stamps.new }
@@ -41,4 +42,20 @@ pub fn drop_collected(cells: &mut List<(Text, MapCell)>, stamps: &mut List<Momen
         at -= 1;
         drop_at(cells, stamps, at, now);
     }
+}
+
+// Drops each cell that is collected, and weighs the others.
+pub fn collect_weighed(
+    cells: &mut List<(Text, MapCell)>,
+    stamps: &mut List<Moment>,
+    weight: &mut u64,
+    now: Moment,
+)
+    requires { IsMap cells.old stamps.old weight.old }
+    ensures cells { stamped cells.new stamps.new ≡ collected_cells now (stamped cells.old stamps.old) }
+    ensures kept { IsMap cells.new stamps.new weight.new }
+{
+    let _weight = *weight;
+    drop_collected(cells, stamps, now);
+    *weight = weigh(cells.as_slice());
 }

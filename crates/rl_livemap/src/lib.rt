@@ -3,8 +3,11 @@
 
 mod cells;
 mod collecting;
+mod held;
 mod livemap;
 #[cfg(test)]
 mod tests;
+mod weights;
 
+pub use held::HeldCell;
 pub use livemap::LiveMap;

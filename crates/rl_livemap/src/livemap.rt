@@ -1,20 +1,26 @@
-ghost use Rattle.std.specs.Prelude.{◌≡◌, ◌&&◌, false, not, map, option_map, IfOk, OnOk, OnErr};
+ghost use Rattle.std.specs.Prelude.{◌≡◌, map, option_map, IfOk, IsSome, OnOk, OnErr};
 ghost use Rattle.std.specs.Option.{option_copied};
 ghost use Rattle.rl_objmodel.specs.Held.{cell_of, removal, shown_cell, value_written};
-ghost use Rattle.rl_objmodel.specs.Places.{at_text, IsRising};
-ghost use Rattle.rl_objmodel.specs.Steps.{any_changes, changes, collected_cells, empty_map, entry_writes, loaded_map, merged, told_write, with_told, with_write, with_writes};
+ghost use Rattle.rl_objmodel.specs.Places.{at_text, restored_at, IsRising};
+ghost use Rattle.rl_livemap.specs.Stamps.{map_weight, stood_at, stood_before, unnumbered};
+ghost use Rattle.rl_objmodel.specs.Steps.{collected_cells, empty_map, entry_writes, loaded_map, merged, told_write, with_told, with_write, with_writes};
 
-use crate::cells::{found, write};
-use crate::collecting::drop_collected;
+use crate::cells::{found, put_back, unnumbered, write_weighed};
+use crate::collecting::collect_weighed;
+use crate::held::HeldCell;
 use rl_ids::{Copied, List, MapValue, Moment, NoMemory, OpSerial, Text};
+use rl_numbers::limits::OBJECT_WEIGHT;
 use rl_types::MapCell;
 use std::alloc::Global;
 use std::marker::Model;
+use std::mem;
 
 /// A map (RTLM). A contract sees it as a `MapHeld`: whether its create was merged, and what stands at its keys, in
 /// order of key: a value, or a tombstone cell with the moment of its removal, each with the serial of its write.
 ///
 /// With n cells, a write looks at about log n keys; one at a new key moves the cells behind it in one move of memory.
+/// It keeps its weight, so that none of them is weighed again. A write that would bring the weight past 2^64 - 1 is
+/// `NoMemory`.
 #[derive(Drop)]
 pub struct LiveMap {
     // in order of key, each once
@@ -22,17 +28,19 @@ pub struct LiveMap {
     // of each tombstone cell the moment of its removal; of a cell with a value it says nothing
     stamps: List<Moment>,
     created: bool,
+    // of all cells, with that of an object
+    weight: u64,
 }
 
 impl Model for LiveMap {
     ghost use Rattle.rl_objmodel.specs.Steps.{MapHeld};
-    ghost use Rattle.rl_livemap.specs.Stamps.{stamped, IsKept};
+    ghost use Rattle.rl_livemap.specs.Stamps.{stamped, IsMap};
 
     ghost Value = { MapHeld };
 
     ghost view = { λ m. record { created = m.created; cells = stamped m.cells m.stamps } };
 
-    ghost invariant = { λ m. IsKept m.cells m.stamps };
+    ghost invariant = { λ m. IsMap m.cells m.stamps m.weight };
 }
 
 impl LiveMap {
@@ -44,6 +52,7 @@ impl LiveMap {
             cells: List::new(alloc),
             stamps: List::new(alloc),
             created: false,
+            weight: OBJECT_WEIGHT,
         }
     }
 
@@ -80,31 +89,39 @@ impl LiveMap {
         Ok(())
     }
 
-    // Writes a cell, where it changes what stands at its key, and answers whether it does.
+    // Writes a cell, where it changes what stands at its key, and answers what stood there.
     fn write(
         &mut self,
         alloc: Global,
         key: &str,
         cell: MapCell,
         stamp: Moment,
-    ) -> Result<bool, NoMemory>
-        ensures changed { IfOk result (λ changed. changed ≡ changes key.now cell.serial self.old.cells) }
+    ) -> Result<Option<Option<HeldCell>>, NoMemory>
+        ensures before { IfOk result (λ before. before ≡ stood_at key.now cell.serial self.old.cells) }
         ensures step { OnOk result (self.new ≡ record self.old { cells = with_told stamp (key.now, cell) self.old.cells }) }
         ensures err { OnErr result (self.new ≡ self.old) }
     {
-        write(alloc, &mut self.cells, &mut self.stamps, key, cell, stamp)
+        write_weighed(
+            alloc,
+            &mut self.cells,
+            &mut self.stamps,
+            &mut self.weight,
+            key,
+            cell,
+            stamp,
+        )
     }
 
-    /// Gives a key a value (RTLM7), where nothing stands there or what has a smaller serial, and answers whether that
-    /// is so. Else the map is as before, as it is after `NoMemory`.
+    /// Gives a key a value (RTLM7), where nothing stands there or what has a smaller serial, and answers what stood
+    /// there, nothing or a cell: `Some` of it. Else it is `None`, and the map is as before, as it is after `NoMemory`.
     pub fn set(
         &mut self,
         alloc: Global,
         key: &str,
         value: MapValue,
         serial: &OpSerial,
-    ) -> Result<bool, NoMemory>
-        ensures changed { IfOk result (λ changed. changed ≡ changes key.now serial.now self.old.cells) }
+    ) -> Result<Option<Option<HeldCell>>, NoMemory>
+        ensures before { IfOk result (λ before. before ≡ stood_at key.now serial.now self.old.cells) }
         ensures step { OnOk result (self.new ≡ record self.old { cells = with_write key.now (value_written serial.now value) self.old.cells }) }
         ensures err { OnErr result (self.new ≡ self.old) }
     {
@@ -116,15 +133,16 @@ impl LiveMap {
     }
 
     /// Leaves a tombstone cell of the moment `now` at a key (RTLM8), where nothing stands there or what has a smaller
-    /// serial, and answers whether that is so. Else the map is as before, as it is after `NoMemory`.
+    /// serial, and answers what stood there, as [`LiveMap::set`] does. Else the map is as before, as it is after
+    /// `NoMemory`.
     pub fn remove(
         &mut self,
         alloc: Global,
         key: &str,
         serial: &OpSerial,
         now: Moment,
-    ) -> Result<bool, NoMemory>
-        ensures changed { IfOk result (λ changed. changed ≡ changes key.now serial.now self.old.cells) }
+    ) -> Result<Option<Option<HeldCell>>, NoMemory>
+        ensures before { IfOk result (λ before. before ≡ stood_at key.now serial.now self.old.cells) }
         ensures step { OnOk result (self.new ≡ record self.old { cells = with_write key.now (removal serial.now now) self.old.cells }) }
         ensures err { OnErr result (self.new ≡ self.old) }
     {
@@ -135,8 +153,18 @@ impl LiveMap {
         self.write(alloc, key, cell, now)
     }
 
+    /// Puts back what stood at a key before a write, a cell or nothing, and what the map weighed. It takes no memory.
+    pub fn put_back(&mut self, key: &str, before: Option<HeldCell>, weight: u64)
+        requires there { IsSome (at_text key.now self.old.cells) }
+        requires weight { weight ≡ map_weight (restored_at key.now before self.old.cells) }
+        ensures { self.new ≡ record self.old { cells = restored_at key.now before self.old.cells } }
+    {
+        put_back(&mut self.cells, &mut self.stamps, key, before);
+        self.weight = weight;
+    }
+
     /// Merges what a create brings (RTLM16, RTLM6d): each entry is set, one after another, and the map is created. It
-    /// answers whether a cell changed. Where the map is created already, nothing changes.
+    /// answers the map that stood before. Where the map is created already, nothing changes, and it answers `None`.
     ///
     /// All memory is taken before the first change: the first create copies the map. `NoMemory` leaves it as before.
     pub fn merge_create(
@@ -144,39 +172,57 @@ impl LiveMap {
         alloc: Global,
         entries: &List<(Text, MapValue)>,
         serial: &OpSerial,
-    ) -> Result<bool, NoMemory>
-        ensures changed { IfOk result (λ changed. changed ≡ (not self.old.created && any_changes serial.now entries.now self.old.cells)) }
+    ) -> Result<Option<LiveMap>, NoMemory>
+        ensures before { IfOk result (λ before. before ≡ stood_before self.old) }
         ensures step { OnOk result (self.new ≡ merged serial.now entries.now self.old) }
         ensures err { OnErr result (self.new ≡ self.old) }
     {
-        if self.created {
-            return Ok(false);
+        if self.created() {
+            return Ok(None);
         }
         let mut made = self.copy(alloc)?;
-        let changed = made.set_all(alloc, entries.as_slice(), serial)?;
-        made.created = true;
-        *self = made;
-        Ok(changed)
+        made.set_all(alloc, entries.as_slice(), serial)?;
+        made.set_created(true);
+        Ok(Some(mem::replace(self, made)))
     }
 
-    // Sets these entries, one after another, and answers whether a cell changed.
+    // Sets these entries, one after another.
     fn set_all(
         &mut self,
         alloc: Global,
         entries: &[(Text, MapValue)],
         serial: &OpSerial,
-    ) -> Result<bool, NoMemory>
-        ensures changed { IfOk result (λ changed. changed ≡ any_changes serial.now entries.now self.old.cells) }
-        ensures step { OnOk result (self.new ≡ record self.old { cells = with_writes (entry_writes serial.now entries.now) self.old.cells }) }
+    ) -> Result<(), NoMemory>
+        ensures { OnOk result (self.new ≡ record self.old { cells = with_writes (entry_writes serial.now entries.now) self.old.cells }) }
     {
-        let _cells = self.cells();
-        let mut changed = false;
         for entry in entries {
             let value = entry.1.copy(alloc)?;
-            let one = self.set(alloc, entry.0.as_str(), value, serial)?;
-            changed = changed || one;
+            self.set(alloc, entry.0.as_str(), value, serial)?;
         }
-        Ok(changed)
+        Ok(())
+    }
+
+    /// Takes the whole map out, and leaves an empty one that is not created. It takes no memory.
+    pub fn take(&mut self, alloc: Global) -> LiveMap
+        ensures map { result ≡ self.old }
+        ensures left { self.new ≡ empty_map }
+    {
+        mem::replace(self, LiveMap::empty(alloc))
+    }
+
+    /// Says whether a create was merged, as where a map is put back. It takes no memory.
+    pub fn set_created(&mut self, created: bool)
+        ensures { self.new ≡ record self.old { created = created } }
+    {
+        self.created = created;
+    }
+
+    /// What the map weighs: [`OBJECT_WEIGHT`], and for each cell
+    /// [`CELL_WEIGHT`](rl_numbers::limits::CELL_WEIGHT), its key and its value. It takes no memory, and looks at no cell.
+    pub fn weight(&self) -> u64
+        ensures { result ≡ map_weight self.now.cells }
+    {
+        self.weight
     }
 
     /// What stands at a key, or nothing. A tombstone cell has no value. It takes no memory.
@@ -194,6 +240,19 @@ impl LiveMap {
         &self.cells
     }
 
+    /// A copy in which the serial of each cell has the place 0 and the index 0: what is written to it at a later place
+    /// is then newer than all that stands. `NoMemory` comes where there is no memory.
+    pub fn unnumbered(&self, alloc: Global) -> Result<LiveMap, NoMemory>
+        ensures { IfOk result (λ made. made ≡ record self.now { cells = unnumbered self.now.cells }) }
+    {
+        Ok(LiveMap {
+            cells: unnumbered(alloc, self.cells.as_slice())?,
+            stamps: self.stamps.copy(alloc)?,
+            created: self.created,
+            weight: self.weight,
+        })
+    }
+
     /// Whether a create was merged.
     pub fn created(&self) -> bool
         ensures { result ≡ self.now.created }
@@ -206,7 +265,7 @@ impl LiveMap {
     pub fn collect(&mut self, now: Moment)
         ensures { self.new ≡ record self.old { cells = collected_cells now self.old.cells } }
     {
-        drop_collected(&mut self.cells, &mut self.stamps, now);
+        collect_weighed(&mut self.cells, &mut self.stamps, &mut self.weight, now);
     }
 }
 
@@ -216,6 +275,7 @@ impl Copied for LiveMap {
             cells: self.cells.copy(alloc)?,
             stamps: self.stamps.copy(alloc)?,
             created: self.created,
+            weight: self.weight,
         })
     }
 }

@@ -1,7 +1,7 @@
 // What no clause says: that calls succeed where memory lasts.
 use crate::LiveMap;
-use rl_ids::{List, MapValue, Moment, NoMemory, OpSerial, Place, Text, read_site};
-use rl_numbers::limits::TOMBSTONE_GRACE;
+use rl_ids::{Copied, List, MapValue, Moment, NoMemory, OpSerial, Place, Text, read_site};
+use rl_numbers::limits::{CELL_WEIGHT, OBJECT_WEIGHT, TOMBSTONE_GRACE, VALUE_WEIGHT};
 use std::alloc::Global;
 
 // The serial of an operation of the site `s1`.
@@ -30,11 +30,26 @@ fn writes_and_loads_succeed(rt: HostRuntime) -> Result<(), NoMemory> {
     let alloc = rt.alloc();
     let mut map = written(alloc)?;
     assert!(rt; map.get("l").is_some());
-    assert!(rt; map.cells().len() == 2);
+    assert!(rt; map.weight() == OBJECT_WEIGHT + 2 * (CELL_WEIGHT + 1) + VALUE_WEIGHT);
     let mut told = LiveMap::load(alloc, map.cells(), map.created(), Moment(8))?;
     map.collect(Moment(7 + TOMBSTONE_GRACE));
     told.collect(Moment(7 + TOMBSTONE_GRACE));
     assert!(rt; map.cells().len() == 1);
     assert!(rt; told.cells().len() == 2);
+    assert!(rt; told.unnumbered(alloc)?.copy(alloc)?.weight() == told.weight());
+    Ok(())
+}
+
+#[test]
+fn what_stood_is_answered(rt: HostRuntime) -> Result<(), NoMemory> {
+    let alloc = rt.alloc();
+    let mut map = written(alloc)?;
+    let first = map.set(alloc, "m", MapValue::Bool(true), &serial(4)?)?;
+    assert!(rt; first.is_some());
+    let second = map.remove(alloc, "m", &serial(4)?, Moment(8))?;
+    assert!(rt; second.is_none());
+    let all = map.take(alloc);
+    assert!(rt; map.cells().is_empty());
+    assert!(rt; all.cells().len() == 3);
     Ok(())
 }

@@ -7,4 +7,4 @@ use Rattle.rl_livemap.proofs.livemap.LiveMap.cells.Goals as goal
 
 pub returns-clause-value : goal.returns-clause-value
 returns-clause-value c =
-    sym (shown_is c.self.inside.cells c.self.inside.stamps c.self.invariant.even) ∙ ap (λ (m : MapHeld). map shown_cell m.cells) c.self.view_is
+    sym (shown_is c.self.inside.cells c.self.inside.stamps c.self.invariant.kept.even) ∙ ap (λ (m : MapHeld). map shown_cell m.cells) c.self.view_is

@@ -12,7 +12,7 @@ returns c =
     let cells = c.self.inside.cells in
     let stamps = c.self.inside.stamps in
     let key = c.args.key.now in
-    c.found.ensures (rising_cells cells stamps c.self.invariant)
-    ∙ sym (ap (λ (xs : Shown). at_text key xs) (shown_is cells stamps c.self.invariant.even))
+    c.found.ensures (rising_cells cells stamps c.self.invariant.kept)
+    ∙ sym (ap (λ (xs : Shown). at_text key xs) (shown_is cells stamps c.self.invariant.kept.even))
     ∙ at_shown key (stamped cells stamps)
     ∙ ap (λ (m : MapHeld). option_map cell_of (at_text key m.cells)) c.self.view_is
