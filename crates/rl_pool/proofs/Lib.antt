@@ -1,0 +1,17 @@
+pub mod Ids
+pub mod Places
+pub mod Calls
+pub mod Reading
+pub mod Rooted
+pub mod Roots
+pub mod Dropping
+pub mod Showing
+pub mod Lists
+pub mod Limits
+pub mod Lighter
+pub mod Changing
+pub mod Undoing
+pub mod Admitted
+pub mod Numbered
+pub mod Alike
+pub mod Judged

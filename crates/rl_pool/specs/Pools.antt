@@ -1,0 +1,35 @@
+-- Pages of a pool, and what a Tick leaves at one place.
+use Rattle.std.specs.Prelude.{ℕ, Bool, true, if◌then◌else◌, nat_le, List, length, filter, map, remove, slice_set, take, Option, Some, None}
+use Rattle.std.specs.Ordering.{is_lt}
+use Rattle.rl_ids.specs.declared.objects.ObjectId.{ObjectId}
+use Rattle.rl_ids.specs.Objects.{id_cmp}
+use Rattle.rl_types.specs.declared.objects.ObjectState.{ObjectState}
+use Rattle.rl_objmodel.specs.Held.{Held, shown}
+use Rattle.rl_objmodel.specs.Steps.{collected_body, is_gone}
+
+-- PAGES
+
+-- an object comes past an id; past none all do
+abbrev pub is_past_id : Option ObjectId → Held → Bool
+is_past_id None held = true
+is_past_id (Some id) held = is_lt (id_cmp id held.id)
+
+abbrev pub past_id : Option ObjectId → List Held → List Held
+past_id after pool = filter (is_past_id after) pool
+
+-- the first of the objects past an id, as pages show them
+abbrev pub page_states : Option ObjectId → ℕ → List Held → List ObjectState
+page_states after most pool = map shown (take most (past_id after pool))
+
+-- none remain after these
+abbrev pub is_last_page : Option ObjectId → ℕ → List Held → Bool
+is_last_page after most pool = nat_le (length (past_id after pool)) most
+
+-- A TICK
+
+abbrev pub collected_one : ℕ → Held → Held
+collected_one now held = record held { body = collected_body now held.body }
+
+-- the objects without the one at a place, or with what a Tick leaves of it
+abbrev pub collected_at : ℕ → Held → ℕ → List Held → List Held
+collected_at now held at pool = if is_gone now held then remove pool at else slice_set pool at (collected_one now held)

@@ -1,0 +1,22 @@
+//! The objects of a channel, or of a client's view of it: maps, counters and tombstones, in order of id.
+#![tactic(auto)]
+
+mod admitting;
+mod applying;
+mod changes;
+mod checking;
+mod collecting;
+mod journal;
+pub mod laws;
+mod live;
+mod load;
+mod pages;
+mod pool;
+mod rules;
+mod search;
+mod telling;
+#[cfg(test)]
+mod tests;
+
+pub use pool::Pool;
+pub use rl_objmodel::Applied;
