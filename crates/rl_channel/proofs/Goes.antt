@@ -16,6 +16,7 @@ use Rattle.rl_channel.specs.State.{ChannelState, StandsAt}
 use Rattle.rl_channel.specs.Steps.{gone_parts}
 use Rattle.rl_channel.specs.Leaving.{left_entry, left_items, with_left}
 use Rattle.rl_channel.proofs.Left.{entry_same}
+use Rattle.rl_channel.proofs.Kept.{gone_objects, same_objects}
 use Rattle.rl_channel.proofs.Parts.{append_none, gone_leaves}
 use Rattle.rl_channel.proofs.Told.{told_more}
 
@@ -45,9 +46,9 @@ pub goes : (site : List ℕ) (past : List ChannelEvent) (conn now stamp : ℕ) (
     → ((parts : Parts) → Keeps old.log parts → Keeps left (with_left (left_entry old.log.head stamp conn id clients) parts))
     → ((parts : Parts) → Keeps left parts → Keeps new.log (without_outcome conn parts))
     → ((latest : List PresenceItem) → old.members ≡ members_of latest → new.members ≡ members_of (reverse (left_items (left_entry old.log.head stamp conn id clients)) ++ latest))
-    → new.clock ≡ stamp
+    → new.objects ≡ old.objects → new.clock ≡ stamp
     → (place ≡ gone_place site past conn now) × StandsAt site new (Gone conn now ∷ past)
-goes site past conn now stamp id clients old new left place stands named are stamped placed leaves forgets membered clocked =
+goes site past conn now stamp id clients old new left place stands named are stamped placed leaves forgets membered kept_objects clocked =
     let entry = left_entry old.log.head stamp conn id clients in
     let is = entry_is site past conn now stamp id clients old stands named are stamped in
     let kept : Keeps new.log (without_outcome conn (with_left entry (parts_of site past))) = forgets (with_left entry (parts_of site past)) (leaves (parts_of site past) stands.keeps) in
@@ -56,6 +57,7 @@ goes site past conn now stamp id clients old new left place stands named are sta
       record {
         keeps = subst (Keeps new.log) parts kept;
         members = membered (told (decisions site past)) stands.members ∙ members_left (log site past) entry ∙ ap (λ (e : Option Entry). members (log site past ++ option_to_list e)) is;
+        objects = gone_objects site new.objects past conn now (same_objects site old.objects new.objects past kept_objects stands.objects);
         clock = clocked ∙ stamped ∙ ap (max now) stands.clock;
       },
     )

@@ -6,7 +6,8 @@ pub mod Parts
 pub mod PresenceItems
 pub mod Puts
 pub mod Replies
-pub mod Roots
+pub mod ObjectPages
+pub mod Kept
 pub mod Rules
 pub mod Taken
 pub mod Told

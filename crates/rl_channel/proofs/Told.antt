@@ -1,5 +1,5 @@
 -- The presence items of a log with one more entry, and the limit of members.
-use Rattle.std.proofs.Common.{◌≡◌, ℕ, suc, Bool, true, false, cond, List, [], ◌∷◌, ◌++◌, length, reverse, map, refl, ap, sym, ◌∙◌, ◌||◌, ◌<◌, ◌≤◌, arith}
+use Rattle.std.proofs.Common.{◌≡◌, ℕ, suc, Bool, true, false, cond, List, [], ◌∷◌, ◌++◌, length, reverse, map, refl, ap, sym, ◌∙◌, ◌||◌}
 use Rattle.std.specs.Prelude.{Option, Some, None, is_some, nat_lt, find, filter_map, option_and_then, bytes_eq, ◌&&◌}
 use Rattle.std.specs.List.{cons_option}
 use Rattle.std.proofs.lemmas.List.{reverse-append}
@@ -7,7 +7,6 @@ use Rattle.rl_ids.specs.declared.members.MemberKey.{MemberKey}
 use Rattle.rl_numbers.specs.declared.limits.TheConstants.{MAX_MEMBERS}
 use Rattle.rl_types.specs.declared.presence.PresenceItem.{PresenceItem}
 use Rattle.rl_types.specs.declared.messages.Entry.{Entry}
-use Rattle.rl_channel.specs.Changes.{IsAfter}
 use Rattle.rl_model.specs.Ids.{filled_presence}
 use Rattle.rl_model.specs.Members.{key_of, is_of, with_key, keys_in, enters, if_enters, member, members_of, presence_of, items_of, has_too_many, told_by}
 
@@ -107,56 +106,3 @@ limit_of_filled latest conn serial now items =
     too_many_marked latest (filled_presence conn serial now 0 items)
     ∙ ap (marked_too_many (map mark_of latest)) (marks_filled conn serial now 0 items)
     ∙ sym (too_many_marked latest (map (told_by conn) items))
-
--- one more item
-or_assoc : (a b c : Bool) → (a || b) || c ≡ a || (b || c)
-or_assoc true b c = refl
-or_assoc false b c = refl
-
-reverse_one : {A : Type 0} (x : A) (xs rest : List A) → reverse (x ∷ xs) ++ rest ≡ reverse xs ++ x ∷ rest
-reverse_one x xs rest = ap (λ (l : List _). l ++ rest) (reverse-append (x ∷ []) xs) ∙ append_assoc_ (reverse xs) (x ∷ []) rest
-
-pub too_many_more : (latest items : List PresenceItem) (item : PresenceItem)
-    → has_too_many latest (items ++ item ∷ []) ≡ (has_too_many latest items || nat_lt MAX_MEMBERS (length (members_of (item ∷ reverse items ++ latest))))
-too_many_more latest [] item = or_false (nat_lt MAX_MEMBERS (length (members_of (item ∷ latest))))
-  where
-    or_false : (b : Bool) → (b || false) ≡ b
-    or_false true = refl
-    or_false false = refl
-too_many_more latest (first ∷ items) item =
-    let test = nat_lt MAX_MEMBERS (length (members_of (first ∷ latest))) in
-    ap (λ (b : Bool). test || b) (too_many_more (first ∷ latest) items item)
-    ∙ sym (or_assoc test (has_too_many (first ∷ latest) items) (nat_lt MAX_MEMBERS (length (members_of (item ∷ reverse items ++ first ∷ latest)))))
-    ∙ ap (λ (l : List PresenceItem). (test || has_too_many (first ∷ latest) items) || nat_lt MAX_MEMBERS (length (members_of (item ∷ l)))) (sym (reverse_one first items latest))
-
--- an item in which the walk finds too many shows it of the whole
-pub too_many_early : (latest items rest : List PresenceItem) → has_too_many latest items ≡ true → has_too_many latest (items ++ rest) ≡ true
-too_many_early latest [] rest h = absurd (cc)
-too_many_early latest (item ∷ items) rest h = by_test (nat_lt MAX_MEMBERS (length (members_of (item ∷ latest)))) h (too_many_early (item ∷ latest) items rest)
-  where
-    by_test : (test : Bool) → (test || has_too_many (item ∷ latest) items) ≡ true
-        → (has_too_many (item ∷ latest) items ≡ true → has_too_many (item ∷ latest) (items ++ rest) ≡ true)
-        → (test || has_too_many (item ∷ latest) (items ++ rest)) ≡ true
-    by_test true h more = refl
-    by_test false h more = more h
-
--- the members after one more item, where not too many stand
-pub after_more : (latest items : List PresenceItem) (item : PresenceItem) (after new : List PresenceItem)
-    → IsAfter latest items (Some after) → (after ≡ members_of (reverse items ++ latest) → new ≡ members_of (item ∷ (reverse items ++ latest)))
-    → length new ≤ MAX_MEMBERS → IsAfter latest (items ++ item ∷ []) (Some new)
-after_more latest items item after new is step few =
-    let made = step is.0 in
-    let within : nat_lt MAX_MEMBERS (length (members_of (item ∷ (reverse items ++ latest)))) ≡ false = rw (← made) (grind arith) in (
-      made ∙ ap (λ (l : List PresenceItem). members_of (l ++ latest)) (sym (reverse-append items (item ∷ []))),
-      too_many_more latest items item ∙ ap (λ (b : Bool). b || nat_lt MAX_MEMBERS (length (members_of (item ∷ (reverse items ++ latest))))) is.1 ∙ within,
-    )
-
--- too many stand after one more item, and so after some of the whole
-pub after_too_many : (latest items rest : List PresenceItem) (item : PresenceItem) (after new : List PresenceItem)
-    → IsAfter latest items (Some after) → (after ≡ members_of (reverse items ++ latest) → new ≡ members_of (item ∷ (reverse items ++ latest)))
-    → MAX_MEMBERS < length new → has_too_many latest ((items ++ item ∷ []) ++ rest) ≡ true
-after_too_many latest items rest item after new is step many =
-    let made = step is.0 in
-    let passed : nat_lt MAX_MEMBERS (length (members_of (item ∷ (reverse items ++ latest)))) ≡ true = rw (← made) (grind arith) in
-    too_many_early latest (items ++ item ∷ []) rest
-    (too_many_more latest items item ∙ ap (λ (b : Bool). b || nat_lt MAX_MEMBERS (length (members_of (item ∷ (reverse items ++ latest))))) is.1 ∙ passed)

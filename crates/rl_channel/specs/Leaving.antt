@@ -1,12 +1,12 @@
 -- What is told of the members that leave with their connection, by their client ids.
-use Rattle.std.specs.Prelude.{ℕ, suc, ◌+◌, ◌==◌, if◌then◌else◌, List, [], ◌∷◌, Option, Some, None}
+use Rattle.std.specs.Prelude.{◌≡◌, ℕ, suc, ◌+◌, ◌==◌, if◌then◌else◌, List, [], ◌∷◌, ◌++◌, map, filter, reverse, Option, Some, None}
 use Rattle.rl_numbers.specs.declared.limits.TheConstants.{MAX_PLACE}
 use Rattle.rl_types.specs.declared.presence.PresenceItem.{PresenceItem}
 use Rattle.rl_types.specs.declared.presence.PresenceAction.TheVariants as presence
 use Rattle.rl_types.specs.declared.messages.Body.TheVariants.{Presence}
 use Rattle.rl_types.specs.declared.messages.Entry.{Entry}
 use Rattle.rl_model.specs.Texts.{gone_id}
-use Rattle.rl_model.specs.Members.{presence_of}
+use Rattle.rl_model.specs.Members.{is_on, members_of, presence_of}
 use Rattle.rl_model.specs.Parts.{Parts, with_entry}
 
 abbrev pub leave_of : ℕ → ℕ → List ℕ → ℕ → List ℕ → PresenceItem
@@ -48,3 +48,9 @@ with_left None parts = parts
 abbrev pub left_items : Option Entry → List PresenceItem
 left_items (Some entry) = presence_of entry.body
 left_items None = []
+
+-- where the members were those that items leave, and these clients are those of the connection's members, they are now
+-- those that the items of this entry leave too
+abbrev pub LeaveWith : Option Entry → List ℕ → List (List ℕ) → List PresenceItem → List PresenceItem → Type 0
+LeaveWith entry id clients old new =
+    (latest : List PresenceItem) → clients ≡ map (λ (item : PresenceItem). item.client) (filter (is_on id) old) → old ≡ members_of latest → new ≡ members_of (reverse (left_items entry) ++ latest)

@@ -1,5 +1,5 @@
 -- What a Put is answered, and what events make of what a channel keeps.
-use Rattle.std.specs.Prelude.{◌≡◌, List, ◌∷◌, ℕ, ◌-◌, ◌&&◌, Bool, false, nat_le, Option, Some, None, nat_lt, ◌==◌, if◌then◌else◌}
+use Rattle.std.specs.Prelude.{List, ◌∷◌, ℕ, ◌-◌, ◌&&◌, Bool, false, nat_le, Option, Some, None, nat_lt, ◌==◌, if◌then◌else◌}
 use Rattle.rl_events.specs.declared.channel.ChannelEvent.{ChannelEvent}
 use Rattle.rl_events.specs.declared.channel.ChannelEvent.TheVariants.{Put}
 use Rattle.rl_events.specs.declared.channel.Verdict.{Verdict}

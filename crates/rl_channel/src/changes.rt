@@ -1,89 +1,50 @@
-// What a put of presence makes of the members.
-ghost use Rattle.std.specs.Prelude.{◌≡◌, ◌∷◌, List, IfOk, OnOk};
-ghost use Rattle.rl_types.specs.declared.presence.PresenceItem.{PresenceItem};
-ghost use Rattle.rl_model.specs.Members.{enters, key_of, members_of};
-ghost use Rattle.rl_channel.specs.Changes.{changed, IsAfter, IsAfterPut};
+// What a put makes of the members and the objects.
+ghost use Rattle.std.specs.Prelude.{◌≡◌, IfOk, OnErr, OnSome};
+ghost use Rattle.rl_types.specs.declared.messages.Body.TheVariants.{Presence};
+ghost use Rattle.rl_channel.specs.Changes.{Changes, Operates};
 
-use rl_ids::{Copied, MemberKey, NoMemory};
+use rl_ids::NoMemory;
 use rl_members::Members;
-use rl_numbers::codes::{MEMBER_LIMIT, POOL_LIMIT};
-use rl_numbers::limits::MAX_MEMBERS;
-use rl_types::{Body, PresenceAction, PresenceItem};
+use rl_numbers::codes::MEMBER_LIMIT;
+use rl_pool::Pool;
+use rl_types::{Body, Entry, PresenceItem};
 use std::alloc::Global;
 
-// What a put makes of the members.
-#[derive(Drop)]
-pub enum After {
-    Same,
-    Changed(Members),
-    // A rule refuses the put, with this code.
-    Refuses(u32),
-}
-
-fn enters(action: PresenceAction) -> bool
-    ensures { result ≡ enters action }
-{
-    matches!(action, PresenceAction::Enter | PresenceAction::Update)
-}
-
-fn key_of(alloc: Global, item: &PresenceItem) -> Result<MemberKey, NoMemory>
-    ensures { IfOk result (λ key. key ≡ key_of item.now) }
-{
-    Ok(MemberKey {
-        conn: item.conn.copy(alloc)?,
-        client: item.client.copy(alloc)?,
-    })
-}
-
-// The members after one more item.
-fn take_item(alloc: Global, members: &mut Members, item: &PresenceItem) -> Result<(), NoMemory>
-    ensures { OnOk result ((latest : List PresenceItem) → members.old ≡ members_of latest → members.new ≡ members_of (item.now ∷ latest)) }
-{
-    if enters(item.action) {
-        return members.enter(alloc, item);
-    }
-    let key = key_of(alloc, item)?;
-    members.leave(&key);
-    Ok(())
-}
-
-// The members after these items, one after another; none where too many stand after some of them.
-pub fn members_after(
+// Takes these items up, or answers the code of the rule that refuses them.
+fn take_items(
     alloc: Global,
-    members: &Members,
+    members: &mut Members,
     items: &[PresenceItem],
-) -> Result<Option<Members>, NoMemory>
-    ensures { IfOk result (λ after. (latest : List PresenceItem) → members.now ≡ members_of latest → IsAfter latest items.now after) }
+) -> Result<Option<u32>, NoMemory>
+    ensures after { IfOk result (λ code. Changes (Presence items.now) code members.old members.new) }
+    ensures refused { IfOk result (λ code. OnSome code (members.new ≡ members.old)) }
+    ensures err { OnErr result (members.new ≡ members.old) }
 {
-    let mut after = members.copy(alloc)?;
-    for item in items {
-        take_item(alloc, &mut after, item)?;
-        if after.count() > MAX_MEMBERS {
-            return Ok(None);
-        }
-    }
-    Ok(Some(after))
-}
-
-// What a put of this body makes of the members. The body is as its entry has it.
-pub fn after_put(alloc: Global, members: &Members, body: &Body) -> Result<After, NoMemory>
-    ensures { IfOk result (λ after. (latest : List PresenceItem) → members.now ≡ members_of latest → IsAfterPut latest body.now after) }
-{
-    match body {
-        Body::Messages(_) => Ok(After::Same),
-        Body::Presence(items) => match members_after(alloc, members, items.as_slice())? {
-            Some(after) => Ok(After::Changed(after)),
-            None => Ok(After::Refuses(MEMBER_LIMIT)),
-        },
-        Body::Objects(_) => Ok(After::Refuses(POOL_LIMIT)),
+    if members.put_all(alloc, items)? {
+        Ok(None)
+    } else {
+        Ok(Some(MEMBER_LIMIT))
     }
 }
 
-// Puts the members after a change, where there is one, in the place of those before it.
-pub fn change(members: &mut Members, after: Option<Members>)
-    ensures { members.new ≡ changed after members.old }
+// Changes the members or the objects as a put of this entry's body does, or answers the code of the rule that refuses it.
+// After a refusal and after `NoMemory` all is as before.
+pub fn change(
+    alloc: Global,
+    members: &mut Members,
+    objects: &mut Pool,
+    entry: &Entry,
+) -> Result<Option<u32>, NoMemory>
+    ensures after { IfOk result (λ code. Changes entry.now.body code members.old members.new) }
+    ensures objects { IfOk result (λ code. Operates entry.now.stamp entry.now.body code objects.old objects.new) }
+    ensures refused { IfOk result (λ code. OnSome code (members.new ≡ members.old)) }
+    ensures refused_objects { IfOk result (λ code. OnSome code (objects.new ≡ objects.old)) }
+    ensures err { OnErr result (members.new ≡ members.old) }
+    ensures err_objects { OnErr result (objects.new ≡ objects.old) }
 {
-    if let Some(after) = after {
-        *members = after;
+    match &entry.body {
+        Body::Messages(_) => Ok(None),
+        Body::Presence(items) => take_items(alloc, members, items.as_slice()),
+        Body::Objects(ops) => objects.admit(alloc, ops, entry.stamp),
     }
 }

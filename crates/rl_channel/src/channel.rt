@@ -1,28 +1,30 @@
-ghost use Rattle.std.specs.Prelude.{◌≡◌, ◌≢◌, ◌||◌, ◌==◌, not, if◌then◌else◌, ◌+◌, ◌-◌, ◌^◌, ◌<◌, ◌≤◌, ◌∷◌, [], List, IfOk, OnOk, OnErr, length, max, Option, Some, None};
+ghost use Rattle.std.specs.Prelude.{◌≡◌, if◌then◌else◌, ◌+◌, ◌<◌, ◌≤◌, ◌∷◌, [], List, IfOk, OnOk, OnErr, OnSome, length, max, None};
 ghost use Rattle.rl_events.specs.declared.channel.ChannelEvent.{ChannelEvent};
 ghost use Rattle.rl_events.specs.declared.channel.Outcome.TheVariants.{Taken, Refused};
 ghost use Rattle.rl_events.specs.declared.channel.Verdict.TheVariants.{Done};
 ghost use Rattle.std.specs.Option.{option_copied};
 ghost use Rattle.rl_types.specs.Weight.{body_weight};
-ghost use Rattle.rl_model.specs.Members.{is_last_page, members, page_items};
+ghost use Rattle.rl_model.specs.Members.{is_last_page, page_items};
 ghost use Rattle.rl_model.specs.Parts.{Parts, parts_of, with_entry, with_outcome};
-ghost use Rattle.rl_model.specs.Reply.{asked_place, is_resumed, joined_place, read_reply};
-ghost use Rattle.rl_model.specs.Objects.{is_last_states, objects_kept, page_states};
-ghost use Rattle.rl_model.specs.Verdict.{decisions, head, log, remembered_of};
-ghost use Rattle.rl_chanlog.specs.Keeps.{Keeps};
-ghost use Rattle.rl_channel.specs.State.{IsDecided, StandsFor};
+ghost use Rattle.rl_model.specs.Reply.{asked_place, has_objects, has_presence, is_resumed, joined_place, read_reply, states_at};
+ghost use Rattle.rl_model.specs.Objects.{is_last_states, page_states};
+ghost use Rattle.rl_model.specs.Verdict.{decisions, head, remembered_of};
+ghost use Rattle.rl_chanlog.specs.Keeps.{IsReady, Keeps};
+ghost use Rattle.rl_channel.specs.State.{Decides, DecidesLate, StandsFor, Stays, StaysLog, members_after, next_entry};
 ghost use Rattle.rl_channel.specs.Steps.{goes_on, settled_at, settled_parts};
-ghost use Rattle.rl_channel.specs.Changes.{changed};
+ghost use Rattle.rl_channel.specs.Changes.{Changes, Operates};
 
-use crate::changes::{After, after_put, change};
+use crate::changes::change;
 use crate::filling::{copied_id, filled, given_id};
 use crate::judging::judged_early;
 use crate::objects::states_after;
+use crate::ranges::body_fits;
 use rl_chanlog::ChanLog;
 use rl_events::{Outcome, ReadReply, Verdict};
 use rl_ids::{ConnNo, Epoch, List, MemberKey, Moment, NoMemory, ObjectId, Place, SiteCode, Text};
 use rl_members::Members;
 use rl_numbers::limits::{MAX_MESSAGE_SIZE, MAX_PLACE};
+use rl_pool::Pool;
 use rl_types::{Body, Entry, Given, ObjectState, PresenceItem};
 use std::alloc::Global;
 use std::marker::Model;
@@ -46,18 +48,24 @@ pub struct Joined {
     /// Whether members may be there (HAS_PRESENCE, RTP1): unset exactly where the session begins at the head
     /// and no member stands.
     pub presence: bool,
+    /// Whether objects may be there (HAS_OBJECTS, RTO4): unset exactly where the session begins at the head and
+    /// there is an empty root alone.
+    pub objects: bool,
 }
 
-/// A channel (RTL): its log within bounds, the members that stand, its clock.
+/// A channel (RTL): its log within bounds, the members that stand, its objects, its clock.
 ///
 /// It stands for its whole history, of which it keeps a bounded part, and answers each event as the definitions
-/// say of that history. A put, a join and a tick cost what they add or drop, and a read what it gives, whatever
-/// the window holds. A put of presence copies the members first, so that all its items change them or none.
+/// say of that history. A put and a join cost what they add or drop, and a read what it gives, whatever the window
+/// holds and however many members and objects stand: a put of presence costs a search and a move for each of its
+/// items, one of operations a search and a change for each of them. A tick looks at each object and each cell, and a
+/// page of objects copies as many as it may have before it is cut.
 #[derive(Drop)]
 pub struct Channel {
     pub(crate) setup: ChannelSetup,
     pub(crate) log: ChanLog,
     pub(crate) members: Members,
+    pub(crate) objects: Pool,
     pub(crate) clock: Moment,
 }
 
@@ -67,7 +75,7 @@ impl Model for Channel {
 
     ghost Value = { ChannelState };
 
-    ghost view = { λ c. record { setup = c.setup; log = c.log; members = c.members; clock = c.clock } };
+    ghost view = { λ c. record { setup = c.setup; log = c.log; members = c.members; objects = c.objects; clock = c.clock } };
 
     ghost invariant = { λ c. c.log.newest ≤ c.clock };
 }
@@ -81,6 +89,7 @@ impl Channel {
             setup: ChannelSetup { epoch, site },
             log: ChanLog::new(alloc)?,
             members: Members::new(alloc),
+            objects: Pool::new(alloc)?,
             clock: Moment(0),
         })
     }
@@ -111,8 +120,8 @@ impl Channel {
 
 impl Channel {
     /// Takes a put (RTL6, RTP8), and answers what the definition says of the history before it; the channel then
-    /// stands for the history with it. All memory is taken before the first change: after `NoMemory` it stands
-    /// for what it stood for.
+    /// stands for the history with it. After `NoMemory` it stands for what it stood for: all other memory is taken
+    /// before the first change, and what operations had changed is put back, which takes none.
     pub fn put(
         &mut self,
         alloc: Global,
@@ -121,8 +130,8 @@ impl Channel {
         body: Body,
         now: Moment,
     ) -> Result<Verdict, NoMemory>
-        ensures decided { IfOk result (λ answer. (past : List ChannelEvent) → StandsFor self.old past → IsDecided self.old self.new past (record { conn = conn; serial = serial; body = body; now = now }) answer) }
-        ensures err { OnErr result ((past : List ChannelEvent) → StandsFor self.old past → StandsFor self.new past) }
+        ensures decided { IfOk result (λ answer. Decides self.old self.new (record { conn = conn; serial = serial; body = body; now = now }) answer) }
+        ensures err { OnErr result (Stays self.old self.new) }
         ensures setup { self.new.setup ≡ self.old.setup }
     {
         match self.judged(conn, serial, &body) {
@@ -164,8 +173,9 @@ impl Channel {
         now: Moment,
     ) -> Result<(), NoMemory>
         ensures ok { OnOk result ((parts : Parts) → Keeps self.old.log parts → Keeps self.new.log (settled_parts conn serial answer.now parts)) }
-        ensures err { OnErr result ((parts : Parts) → Keeps self.old.log parts → Keeps self.new.log parts) }
+        ensures err { OnErr result (StaysLog self.old self.new) }
         ensures members { self.new.members ≡ self.old.members }
+        ensures objects { self.new.objects ≡ self.old.objects }
         ensures clock { OnOk result (self.new.clock ≡ max now self.old.clock) }
         ensures same_clock { OnErr result (self.new.clock ≡ self.old.clock) }
         ensures setup { self.new.setup ≡ self.old.setup }
@@ -189,8 +199,9 @@ impl Channel {
     ) -> Result<Verdict, NoMemory>
         ensures answer { IfOk result (λ answer. answer ≡ Done (Refused code)) }
         ensures ok { OnOk result ((parts : Parts) → Keeps self.old.log parts → Keeps self.new.log (settled_parts conn serial (Done (Refused code)) parts)) }
-        ensures err { OnErr result ((parts : Parts) → Keeps self.old.log parts → Keeps self.new.log parts) }
+        ensures err { OnErr result (StaysLog self.old self.new) }
         ensures members { self.new.members ≡ self.old.members }
+        ensures objects { self.new.objects ≡ self.old.objects }
         ensures clock { OnOk result (self.new.clock ≡ max now self.old.clock) }
         ensures same_clock { OnErr result (self.new.clock ≡ self.old.clock) }
         ensures setup { self.new.setup ≡ self.old.setup }
@@ -200,7 +211,65 @@ impl Channel {
         Ok(answer)
     }
 
-    // A put that no rule before the limit of members decides.
+    // The entry of a put that is added at the next place.
+    fn entry_of(
+        &self,
+        alloc: Global,
+        conn: ConnNo,
+        serial: u64,
+        body: Body,
+        now: Moment,
+    ) -> Result<Entry, NoMemory>
+        requires open { self.now.log.head < MAX_PLACE }
+        requires light { body_weight body ≤ MAX_MESSAGE_SIZE }
+        ensures value { IfOk result (λ entry. entry ≡ next_entry self.now conn serial body now) }
+        ensures within { IfOk result (λ entry. entry.place ≤ MAX_PLACE) }
+        ensures later { IfOk result (λ entry. self.now.log.newest ≤ entry.stamp) }
+    {
+        let stamp = self.clock_at(now);
+        let place = Place(self.log.head().0 + 1);
+        let site = self.site();
+        Ok(Entry {
+            place,
+            stamp,
+            conn,
+            serial: Some(serial),
+            body: filled(alloc, site, place, conn, serial, stamp, body)?,
+        })
+    }
+
+    // Takes the memory that the log wants for this entry and the outcome of its put.
+    fn prepare(&mut self, alloc: Global, entry: &Entry) -> Result<(), NoMemory>
+        ensures log { StaysLog self.old self.new }
+        ensures room { OnOk result ((0 < self.new.log.room) × IsReady entry.now.conn self.new.log) }
+        ensures kept { (self.new.log.head ≡ self.old.log.head) × (self.new.log.newest ≡ self.old.log.newest) }
+        ensures members { self.new.members ≡ self.old.members }
+        ensures objects { self.new.objects ≡ self.old.objects }
+        ensures clock { self.new.clock ≡ self.old.clock }
+        ensures setup { self.new.setup ≡ self.old.setup }
+    {
+        self.log.reserve(alloc, entry)?;
+        self.log.ready(entry.conn)
+    }
+
+    // Changes the members or the objects as a put of this entry's body does, or answers the code of the rule that refuses
+    // it. All else stays.
+    fn change(&mut self, alloc: Global, entry: &Entry) -> Result<Option<u32>, NoMemory>
+        ensures after { IfOk result (λ code. Changes entry.now.body code self.old.members self.new.members) }
+        ensures objects { IfOk result (λ code. Operates entry.now.stamp entry.now.body code self.old.objects self.new.objects) }
+        ensures refused { IfOk result (λ code. OnSome code (self.new.members ≡ self.old.members)) }
+        ensures refused_objects { IfOk result (λ code. OnSome code (self.new.objects ≡ self.old.objects)) }
+        ensures err { OnErr result (self.new.members ≡ self.old.members) }
+        ensures err_objects { OnErr result (self.new.objects ≡ self.old.objects) }
+        ensures log { self.new.log ≡ self.old.log }
+        ensures clock { self.new.clock ≡ self.old.clock }
+        ensures setup { self.new.setup ≡ self.old.setup }
+    {
+        change(alloc, &mut self.members, &mut self.objects, entry)
+    }
+
+    // A put that no rule before the limit of members decides. The members and the objects are the last that may want
+    // memory.
     fn add(
         &mut self,
         alloc: Global,
@@ -211,59 +280,42 @@ impl Channel {
     ) -> Result<Verdict, NoMemory>
         requires open { self.old.log.head < MAX_PLACE }
         requires light { body_weight body ≤ MAX_MESSAGE_SIZE }
-        ensures decided { IfOk result (λ answer. (past : List ChannelEvent) → StandsFor self.old past → settled_at self.old.setup.site past conn serial body ≡ None → IsDecided self.old self.new past (record { conn = conn; serial = serial; body = body; now = now }) answer) }
-        ensures err { OnErr result ((past : List ChannelEvent) → StandsFor self.old past → StandsFor self.new past) }
+        ensures decided { IfOk result (λ answer. DecidesLate self.old self.new (record { conn = conn; serial = serial; body = body; now = now }) answer) }
+        ensures err { OnErr result (Stays self.old self.new) }
         ensures setup { self.new.setup ≡ self.old.setup }
     {
-        let stamp = self.clock_at(now);
+        body_fits(&body);
         let id = copied_id(alloc, &body)?;
-        let place = Place(self.log.head().0 + 1);
-        let site = self.site();
-        let body = filled(alloc, site, place, conn, serial, stamp, body)?;
-        let members = match after_put(alloc, &self.members, &body)? {
-            After::Refuses(code) => return self.refuse(conn, serial, code, now),
-            After::Same => None,
-            After::Changed(members) => Some(members),
-        };
-        let entry = Entry {
-            place,
-            stamp,
-            conn,
-            serial: Some(serial),
-            body,
-        };
-        self.append(alloc, serial, entry, id, members)?;
-        Ok(Verdict::Done(Outcome::Taken(place)))
+        let entry = self.entry_of(alloc, conn, serial, body, now)?;
+        self.prepare(alloc, &entry)?;
+        match self.change(alloc, &entry)? {
+            Some(code) => self.refuse(conn, serial, code, now),
+            None => {
+                let place = entry.place;
+                self.append(serial, entry, id);
+                Ok(Verdict::Done(Outcome::Taken(place)))
+            }
+        }
     }
 
-    // Adds an entry at the next place, with its outcome and the members after it, where they change.
-    fn append(
-        &mut self,
-        alloc: Global,
-        serial: u64,
-        entry: Entry,
-        id: Option<Text>,
-        members: Option<Members>,
-    ) -> Result<(), NoMemory>
+    // Adds an entry at the next place, with its outcome. It takes no memory.
+    fn append(&mut self, serial: u64, entry: Entry, id: Option<Text>)
+        requires room { 0 < self.old.log.room }
+        requires ready { IsReady entry.conn self.old.log }
         requires place { entry.place ≡ self.old.log.head + 1 }
         requires within { entry.place ≤ MAX_PLACE }
         requires later { self.old.log.newest ≤ entry.stamp }
-        ensures ok { OnOk result ((parts : Parts) → Keeps self.old.log parts → Keeps self.new.log (with_outcome entry.conn serial (Taken entry.place) (with_entry entry id parts))) }
-        ensures err { OnErr result ((parts : Parts) → Keeps self.old.log parts → Keeps self.new.log parts) }
-        ensures members { OnOk result (self.new.members ≡ changed members self.old.members) }
-        ensures same_members { OnErr result (self.new.members ≡ self.old.members) }
-        ensures clock { OnOk result (self.new.clock ≡ entry.stamp) }
-        ensures same_clock { OnErr result (self.new.clock ≡ self.old.clock) }
+        ensures log { (parts : Parts) → Keeps self.old.log parts → Keeps self.new.log (with_outcome entry.conn serial (Taken entry.place) (with_entry entry id parts)) }
+        ensures members { self.new.members ≡ self.old.members }
+        ensures objects { self.new.objects ≡ self.old.objects }
+        ensures clock { self.new.clock ≡ entry.stamp }
         ensures setup { self.new.setup ≡ self.old.setup }
     {
         let (conn, outcome, stamp) = marks_of(&entry);
-        self.log.reserve(alloc, &entry)?;
-        self.log.ready(conn)?;
         self.clock = stamp;
         self.log.add(entry, id);
-        self.log.consume(conn, serial, outcome)?;
-        change(&mut self.members, members);
-        Ok(())
+        // The connection is ready, so it succeeds.
+        let _kept = self.log.consume(conn, serial, outcome);
     }
 }
 
@@ -281,7 +333,8 @@ impl Channel {
     pub fn join(&self, asked: &Option<Given>) -> Joined
         ensures place { (past : List ChannelEvent) → StandsFor self.now past → result.place ≡ joined_place self.now.setup.epoch self.now.setup.site past asked.now }
         ensures resumed { (past : List ChannelEvent) → StandsFor self.now past → result.resumed ≡ is_resumed self.now.setup.epoch self.now.setup.site past asked.now }
-        ensures presence { (past : List ChannelEvent) → StandsFor self.now past → result.presence ≡ (not (result.place == head self.now.setup.site past) || not (length (members (log self.now.setup.site past)) == 0)) }
+        ensures presence { (past : List ChannelEvent) → StandsFor self.now past → result.presence ≡ has_presence self.now.setup.site past result.place }
+        ensures objects { (past : List ChannelEvent) → StandsFor self.now past → result.objects ≡ has_objects self.now.setup.site past result.place }
         ensures stands { (past : List ChannelEvent) → StandsFor self.now past → StandsFor self.now (ChannelEvent.Join asked.now ∷ past) }
     {
         let head = self.log.head();
@@ -291,6 +344,7 @@ impl Channel {
             place,
             resumed,
             presence: place != head || self.members.count() != 0,
+            objects: place != head || !self.objects.is_bare(),
         }
     }
 
@@ -373,8 +427,8 @@ impl Channel {
         after: Option<&MemberKey>,
         max: usize,
     ) -> Result<MemberPage, NoMemory>
-        ensures items { IfOk result (λ page. (past : List ChannelEvent) → StandsFor self.now past → page.items ≡ page_items (option_copied after.entry) max (members (log self.now.setup.site past))) }
-        ensures last { IfOk result (λ page. (past : List ChannelEvent) → StandsFor self.now past → page.last ≡ is_last_page (option_copied after.entry) max (members (log self.now.setup.site past))) }
+        ensures items { IfOk result (λ page. (past : List ChannelEvent) → StandsFor self.now past → page.items ≡ page_items (option_copied after.entry) max (members_after self.now past)) }
+        ensures last { IfOk result (λ page. (past : List ChannelEvent) → StandsFor self.now past → page.last ≡ is_last_page (option_copied after.entry) max (members_after self.now past)) }
         ensures head { IfOk result (λ page. (past : List ChannelEvent) → StandsFor self.now past → page.head ≡ head self.now.setup.site past) }
         ensures stands { (past : List ChannelEvent) → StandsFor self.now past → StandsFor self.now (ChannelEvent.MemberPage (option_copied after.entry) max ∷ past) }
     {
@@ -384,31 +438,31 @@ impl Channel {
     }
 
     /// The first objects past an id, at most `max` of them, up to the one that brings their weight to
-    /// [`PAGE_WEIGHT`] (RTO5). A channel keeps no objects yet, so there is the root alone. The channel stands for
-    /// the history with the page too.
+    /// [`PAGE_WEIGHT`] (RTO5). The channel stands for the history with the page too.
     pub fn object_page(
         &self,
         alloc: Global,
         after: Option<&ObjectId>,
         max: usize,
     ) -> Result<ObjectPage, NoMemory>
-        ensures states { IfOk result (λ page. page.states ≡ page_states (option_copied after.entry) max objects_kept) }
-        ensures last { IfOk result (λ page. page.last ≡ is_last_states (option_copied after.entry) max objects_kept) }
+        ensures states { IfOk result (λ page. (past : List ChannelEvent) → StandsFor self.now past → page.states ≡ page_states (option_copied after.entry) max (states_at self.now.setup.site past)) }
+        ensures last { IfOk result (λ page. (past : List ChannelEvent) → StandsFor self.now past → page.last ≡ is_last_states (option_copied after.entry) max (states_at self.now.setup.site past)) }
         ensures head { IfOk result (λ page. (past : List ChannelEvent) → StandsFor self.now past → page.head ≡ head self.now.setup.site past) }
         ensures stands { (past : List ChannelEvent) → StandsFor self.now past → StandsFor self.now (ChannelEvent.ObjectPage (option_copied after.entry) max ∷ past) }
     {
-        let (states, last) = states_after(alloc, after, max)?;
+        let (states, last) = states_after(alloc, &self.objects, after, max)?;
         let head = self.log.head();
         Ok(ObjectPage { states, last, head })
     }
 
-    /// Time passes: entries older than [`MAX_ENTRY_AGE`] are not retained any more (this project's own). It takes no
-    /// memory.
+    /// Time passes: entries older than [`MAX_ENTRY_AGE`] are not retained any more (this project's own), and tombstones
+    /// a day old are dropped (RTO10). It takes no memory.
     pub fn tick(&mut self, now: Moment)
         ensures stands { (past : List ChannelEvent) → StandsFor self.old past → StandsFor self.new (ChannelEvent.Tick now ∷ past) }
         ensures setup { self.new.setup ≡ self.old.setup }
     {
         self.clock = self.clock_at(now);
         self.log.age(self.clock);
+        self.objects.collect(self.clock);
     }
 }

@@ -1,14 +1,10 @@
 // A connection goes for good, and its members with it.
-ghost use Rattle.std.specs.Prelude.{◌≡◌, ◌≤◌, ◌∷◌, ◌++◌, List, map, filter, reverse, IfOk, OnOk, OnErr, option_map};
-ghost use Rattle.rl_events.specs.declared.channel.ChannelEvent.{ChannelEvent};
+ghost use Rattle.std.specs.Prelude.{◌≡◌, ◌≤◌, IfOk, OnOk, OnErr, option_map};
 ghost use Rattle.rl_types.specs.declared.messages.Entry as entries;
-ghost use Rattle.rl_types.specs.declared.presence.PresenceItem as items;
-ghost use Rattle.rl_model.specs.Members.{is_on, members_of};
 ghost use Rattle.rl_model.specs.Parts.{Parts};
-ghost use Rattle.rl_model.specs.Reply.{gone_place};
 ghost use Rattle.rl_chanlog.specs.Keeps.{Keeps};
-ghost use Rattle.rl_channel.specs.State.{StandsFor};
-ghost use Rattle.rl_channel.specs.Leaving.{left_entry, left_items, with_left};
+ghost use Rattle.rl_channel.specs.State.{Loses, Stays};
+ghost use Rattle.rl_channel.specs.Leaving.{LeaveWith, left_entry, with_left};
 
 use crate::channel::Channel;
 use crate::leaving::leaves_of;
@@ -27,8 +23,8 @@ impl Channel {
         conn: ConnNo,
         now: Moment,
     ) -> Result<Option<Place>, NoMemory>
-        ensures decided { IfOk result (λ place. (past : List ChannelEvent) → StandsFor self.old past → (place ≡ gone_place self.old.setup.site past conn now) × StandsFor self.new (ChannelEvent.Gone conn now ∷ past)) }
-        ensures err { OnErr result ((past : List ChannelEvent) → StandsFor self.old past → StandsFor self.new past) }
+        ensures decided { IfOk result (λ place. Loses self.old self.new conn now place) }
+        ensures err { OnErr result (Stays self.old self.new) }
         ensures setup { self.new.setup ≡ self.old.setup }
     {
         let stamp = self.clock_at(now);
@@ -52,10 +48,11 @@ impl Channel {
         requires later { self.old.clock ≤ stamp }
         ensures place { IfOk result (λ place. place ≡ option_map (λ (e : entries.Entry). e.place) (left_entry self.old.log.head stamp conn id.now clients)) }
         ensures log { OnOk result ((parts : Parts) → Keeps self.old.log parts → Keeps self.new.log (with_left (left_entry self.old.log.head stamp conn id.now clients) parts)) }
-        ensures members { OnOk result ((latest : List items.PresenceItem) → clients ≡ map (λ (item : items.PresenceItem). item.client) (filter (is_on id.now) self.old.members) → self.old.members ≡ members_of latest → self.new.members ≡ members_of (reverse (left_items (left_entry self.old.log.head stamp conn id.now clients)) ++ latest)) }
+        ensures members { OnOk result (LeaveWith (left_entry self.old.log.head stamp conn id.now clients) id.now clients self.old.members self.new.members) }
         ensures newest { self.new.log.newest ≤ stamp }
         ensures err { OnErr result ((parts : Parts) → Keeps self.old.log parts → Keeps self.new.log parts) }
         ensures same_members { OnErr result (self.new.members ≡ self.old.members) }
+        ensures objects { self.new.objects ≡ self.old.objects }
         ensures same_clock { OnErr result (self.new.clock ≡ self.old.clock) }
         ensures setup { self.new.setup ≡ self.old.setup }
     {

@@ -12,5 +12,6 @@ mod judging;
 mod leaving;
 mod machine;
 mod objects;
+mod ranges;
 
 pub use channel::{Channel, ChannelSetup, Joined, MemberPage, ObjectPage};

@@ -2,7 +2,7 @@
 ghost use Rattle.std.specs.Prelude.{◌≡◌, ◌∷◌, List, true, IfOk, OnErr, IsOk};
 ghost use Rattle.rl_events.specs.declared.channel.ChannelEvent as events;
 ghost use Rattle.rl_model.specs.Reply.{reply};
-ghost use Rattle.rl_channel.specs.State.{StandsFor, is_spare};
+ghost use Rattle.rl_channel.specs.State.{Replies, StandsFor, Stays, Steps, is_spare};
 
 use crate::channel::{Channel, ChannelSetup};
 use rl_events::{ChannelEvent, ChannelReply};
@@ -25,7 +25,7 @@ impl Channel {
             },
             resumed: joined.resumed,
             presence: joined.presence,
-            objects: false,
+            objects: joined.objects,
         }
     }
 
@@ -36,7 +36,7 @@ impl Channel {
         after: &Option<MemberKey>,
         max: usize,
     ) -> Result<ChannelReply, NoMemory>
-        ensures value { IfOk result (λ answer. (past : List events.ChannelEvent) → StandsFor self.now past → answer ≡ reply self.now.setup.epoch self.now.setup.site past (events.ChannelEvent.MemberPage after.now max)) }
+        ensures value { IfOk result (λ answer. Replies self.now (events.ChannelEvent.MemberPage after.now max) answer) }
         ensures stands { (past : List events.ChannelEvent) → StandsFor self.now past → StandsFor self.now (events.ChannelEvent.MemberPage after.now max ∷ past) }
     {
         let page = self.member_page(alloc, after.as_ref(), max)?;
@@ -54,7 +54,7 @@ impl Channel {
         after: &Option<ObjectId>,
         max: usize,
     ) -> Result<ChannelReply, NoMemory>
-        ensures value { IfOk result (λ answer. (past : List events.ChannelEvent) → StandsFor self.now past → answer ≡ reply self.now.setup.epoch self.now.setup.site past (events.ChannelEvent.ObjectPage after.now max)) }
+        ensures value { IfOk result (λ answer. Replies self.now (events.ChannelEvent.ObjectPage after.now max) answer) }
         ensures stands { (past : List events.ChannelEvent) → StandsFor self.now past → StandsFor self.now (events.ChannelEvent.ObjectPage after.now max ∷ past) }
     {
         let page = self.object_page(alloc, after.as_ref(), max)?;
@@ -65,7 +65,7 @@ impl Channel {
         })
     }
 
-    // What the channel holds. The root is an object.
+    // What the channel holds: the root is an object, and tombstones are.
     fn census(&self) -> ChannelReply
         ensures value { (past : List events.ChannelEvent) → StandsFor self.now past → result ≡ reply self.now.setup.epoch self.now.setup.site past events.ChannelEvent.Census }
         ensures stands { (past : List events.ChannelEvent) → StandsFor self.now past → StandsFor self.now (events.ChannelEvent.Census ∷ past) }
@@ -74,7 +74,7 @@ impl Channel {
             first: self.log.first(),
             head: self.log.head(),
             members: self.members.count(),
-            objects: 1,
+            objects: self.objects.count(),
         }
     }
 
@@ -82,8 +82,8 @@ impl Channel {
     // the history with it. After `NoMemory` it stands for what it stood for, and the event is dropped. Joins,
     // ticks and censuses take no memory.
     fn step(&mut self, alloc: Global, event: ChannelEvent) -> Result<ChannelReply, NoMemory>
-        ensures ok { IfOk result (λ answer. (past : List events.ChannelEvent) → StandsFor self.old past → (answer ≡ reply self.old.setup.epoch self.old.setup.site past event) × StandsFor self.new (event ∷ past)) }
-        ensures err { OnErr result ((past : List events.ChannelEvent) → StandsFor self.old past → StandsFor self.new past) }
+        ensures ok { IfOk result (λ answer. Steps self.old self.new event answer) }
+        ensures err { OnErr result (Stays self.old self.new) }
         ensures setup { self.new.setup ≡ self.old.setup }
         ensures spare { is_spare event ≡ true → IsOk result }
     {

@@ -1,53 +1,61 @@
-// The objects of a channel. It keeps none yet, so there is the root alone.
-ghost use Rattle.std.specs.Prelude.{◌≡◌, [], ◌∷◌, IfOk};
+// Pages of the objects of a channel.
+ghost use Rattle.std.specs.Prelude.{◌≡◌, ◌≤◌, ◌==◌, ◌&&◌, IfOk, length, take};
 ghost use Rattle.std.specs.Option.{option_copied};
-ghost use Rattle.rl_model.specs.Objects.{bare_root, is_last_states, is_past_id, objects_kept, page_states};
+ghost use Rattle.rl_model.specs.Objects.{cut_from, is_last_states, page_states};
+ghost use Rattle.rl_objmodel.specs.Steps.{states};
 
 use rl_ids::{List, NoMemory, ObjectId};
-use rl_types::{ObjectBody, ObjectState};
+use rl_numbers::limits::PAGE_WEIGHT;
+use rl_pool::Pool;
+use rl_types::{ObjectState, state_weight};
 use std::alloc::Global;
 
-// A root that nobody wrote to.
-fn bare_root(alloc: Global) -> ObjectState
-    ensures { result ≡ bare_root }
+// How many of these states a page has: up to the one that brings its weight to its limit.
+fn count_cut(states: &[ObjectState]) -> usize
+    ensures within { result ≤ length states.now }
+    ensures value { take result states.now ≡ cut_from 0 states.now }
 {
-    ObjectState {
-        id: ObjectId::Root,
-        sites: List::new(alloc),
-        tombstone: false,
-        created: true,
-        body: ObjectBody::Map(List::new(alloc)),
+    let mut count = 0usize;
+    let mut weight = 0u64;
+    for state in states {
+        if weight >= PAGE_WEIGHT {
+            return count;
+        }
+        weight = weight.saturating_add(state_weight(state));
+        count += 1;
     }
+    count
 }
 
-// The root is past an id. Its text is the greatest there is.
-#[tactic(auto, using(crate::proofs::Roots::root_is_past))]
-fn is_root_past(after: Option<&ObjectId>) -> bool
-    ensures { result ≡ is_past_id (option_copied after.entry) bare_root }
+// The first of these states, so many.
+fn first_of(states: List<ObjectState>, count: usize) -> List<ObjectState>
+    ensures { result ≡ take count states }
 {
-    match after {
-        None => true,
-        Some(ObjectId::Root) => false,
-        Some(ObjectId::Made { .. }) => true,
-    }
+    let mut kept = states.into_vec();
+    kept.truncate(count);
+    List::from_vec(kept)
+}
+
+// Whether none remain after a page that has so many of the states that none remain after.
+fn is_whole(none_remain: bool, count: usize, whole: usize) -> bool
+    ensures { result ≡ (none_remain && (count == whole)) }
+{
+    none_remain && count == whole
 }
 
 // The objects of a page, and whether none remain after them.
+#[tactic(auto, using(crate::proofs::ObjectPages::page_is))]
 pub fn states_after(
     alloc: Global,
+    objects: &Pool,
     after: Option<&ObjectId>,
     max: usize,
 ) -> Result<(List<ObjectState>, bool), NoMemory>
-    ensures states { IfOk result (λ page. page.0 ≡ page_states (option_copied after.entry) max objects_kept) }
-    ensures last { IfOk result (λ page. page.1 ≡ is_last_states (option_copied after.entry) max objects_kept) }
+    ensures states { IfOk result (λ page. page.0 ≡ page_states (option_copied after.entry) max (states objects.now)) }
+    ensures last { IfOk result (λ page. page.1 ≡ is_last_states (option_copied after.entry) max (states objects.now)) }
 {
-    let mut states = List::new(alloc);
-    if !is_root_past(after) {
-        return Ok((states, true));
-    }
-    if max == 0 {
-        return Ok((states, false));
-    }
-    states.push(bare_root(alloc))?;
-    Ok((states, true))
+    let (states, none_remain) = objects.after(alloc, after, max)?;
+    let count = count_cut(states.as_slice());
+    let last = is_whole(none_remain, count, states.len());
+    Ok((first_of(states, count), last))
 }

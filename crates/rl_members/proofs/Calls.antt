@@ -1,7 +1,6 @@
 -- What the calls leave. The list that is held is the list that is seen, in order of key.
 use Rattle.std.proofs.Common.{◌≡◌, ℕ, Bool, true, false, List, [], ◌∷◌, ◌++◌, refl, ap, sym, subst, ◌∙◌}
-use Rattle.std.specs.Prelude.{insert, remove, slice_set, not, filter, map, reverse, drop, Some, None, Result, OnOk}
-use Rattle.std.proofs.lemmas.Result.{on_ok_weaker}
+use Rattle.std.specs.Prelude.{insert, remove, slice_set, not, filter, map, reverse, drop, Some, None}
 use Rattle.std.specs.List.{list_any, list_all}
 use Rattle.rl_ids.specs.declared.members.MemberKey.{MemberKey}
 use Rattle.rl_types.specs.declared.presence.PresenceItem.{PresenceItem}
@@ -54,13 +53,9 @@ same_others key items seen at same place rising = missed_others key items at ris
 
 -- THE MEMBERS
 
-entered : (item copy : PresenceItem) (old inner new : List PresenceItem) → copy ≡ item → inner ≡ old → new ≡ with_member copy inner → (latest : List PresenceItem) → enters item.action ≡ true → old ≡ members_of latest → new ≡ members_of (item ∷ latest)
+pub entered : (item copy : PresenceItem) (old inner new : List PresenceItem) → copy ≡ item → inner ≡ old → new ≡ with_member copy inner → (latest : List PresenceItem) → enters item.action ≡ true → old ≡ members_of latest → new ≡ members_of (item ∷ latest)
 entered item copy old inner new copied view step latest h is =
     step ∙ ap (λ (one : PresenceItem). with_member one inner) copied ∙ ap (with_member item) (view ∙ is) ∙ sym (members_enter item latest h)
-
-pub enter_members : {T E : Type 0} (result : Result T E) (item copy : PresenceItem) (old inner new : List PresenceItem) → copy ≡ item → inner ≡ old → IsRising inner → (IsRising inner → OnOk result (new ≡ with_member copy inner)) → OnOk result ((latest : List PresenceItem) → enters item.action ≡ true → old ≡ members_of latest → new ≡ members_of (item ∷ latest))
-enter_members result item copy old inner new copied view rising step =
-    on_ok_weaker result (λ is. entered item copy old inner new copied view is) (step rising)
 
 pub leave_members : (key : MemberKey) (old inner new latest : List PresenceItem) (item : PresenceItem) → inner ≡ old → IsRising inner → (IsRising inner → new ≡ filter (λ one. not (is_of key one)) inner) → enters item.action ≡ false → key_of item ≡ key → old ≡ members_of latest → new ≡ members_of (item ∷ latest)
 leave_members key old inner new latest item view rising left h same is =

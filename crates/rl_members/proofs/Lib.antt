@@ -3,3 +3,4 @@ pub mod Laws
 pub mod Leaving
 pub mod Places
 pub mod Calls
+pub mod Undoing

@@ -1,17 +1,47 @@
 -- The members of a channel, held in order of key.
-use Rattle.std.specs.Prelude.{◌≡◌, ℕ, ◌<◌, ◌≤◌, Bool, true, false, not, List, [], ◌∷◌, length, ⊤, slice_index_or, Result, MatchResult}
-use Rattle.std.specs.List.{AllByRecursion, AllWithin}
+use Rattle.std.specs.Prelude.{◌≡◌, ℕ, ◌<◌, ◌≤◌, Bool, true, false, not, if◌then◌else◌, ◌||◌, nat_lt, List, [], ◌∷◌, ◌++◌, length, filter, map, reverse, ⊤, slice_index_or, Result, MatchResult}
+use Rattle.std.specs.List.{AllByRecursion, AllWithin, list_all}
 use Rattle.std.specs.declared.cmp.Ordering.TheVariants.{Less}
 use Rattle.std.specs.Ordering.{match_ordering, is_lt}
 use Rattle.rl_ids.specs.declared.members.MemberKey.{MemberKey}
 use Rattle.rl_types.specs.declared.presence.PresenceItem.{PresenceItem}
-use Rattle.rl_model.specs.Members.{key_of, key_cmp, is_of}
+use Rattle.rl_model.specs.Members.{key_of, key_cmp, is_of, is_on, enters, members_of}
+use Rattle.rl_numbers.specs.declared.limits.TheConstants.{MAX_MEMBERS}
 
 -- the members, in order of key, with this item in place of its key's, or among them
 abbrev pub with_member : PresenceItem → List PresenceItem → List PresenceItem
 with_member item [] = item ∷ []
 with_member item (other ∷ members) =
     match_ordering (key_cmp (key_of item) (key_of other)) (item ∷ other ∷ members) (item ∷ members) (other ∷ with_member item members)
+
+-- the members after one more item (RTP2)
+abbrev pub with_item : PresenceItem → List PresenceItem → List PresenceItem
+with_item item members =
+    if enters item.action then with_member item members else filter (λ other. not (is_of (key_of item) other)) members
+
+-- the members after more items, in order
+abbrev pub with_items : List PresenceItem → List PresenceItem → List PresenceItem
+with_items [] members = members
+with_items (item ∷ items) members = with_items items (with_item item members)
+
+-- after some of the items, in order, more members stand than may
+abbrev pub outgrows : List PresenceItem → List PresenceItem → Bool
+outgrows members [] = false
+outgrows members (item ∷ items) =
+    nat_lt MAX_MEMBERS (length (with_item item members)) || outgrows (with_item item members) items
+
+-- where the members were those that items leave, they are now those that these and one more leave, which is of this key
+-- and doesn't enter
+abbrev pub LeavesKey : MemberKey → List PresenceItem → List PresenceItem → Type 0
+LeavesKey key old new =
+    (latest : List PresenceItem) → (item : PresenceItem) → enters item.action ≡ false → key_of item ≡ key → old ≡ members_of latest → new ≡ members_of (item ∷ latest)
+
+-- where the members were those that items leave, they are now those that these leave and one more for each member of the
+-- connection, in order, none of which enters
+abbrev pub LeavesConn : List ℕ → List PresenceItem → List PresenceItem → Type 0
+LeavesConn conn old new =
+    (latest : List PresenceItem) → (leaves : List PresenceItem) → list_all (λ item. not (enters item.action)) leaves ≡ true
+    → map key_of leaves ≡ map key_of (filter (is_on conn) old) → old ≡ members_of latest → new ≡ members_of (reverse leaves ++ latest)
 
 -- each member's key comes before those of all later ones
 abbrev pub AreRising : List PresenceItem → Type 0

@@ -8,8 +8,13 @@
 //! Memory is taken to hold an item and to answer a page; a call that finds none leaves the members as before.
 #![tactic(auto)]
 
+mod changes;
+mod member;
 mod members;
 mod page;
 mod search;
+mod taking;
+#[cfg(test)]
+mod tests;
 
 pub use members::Members;

@@ -1,13 +1,16 @@
 ghost use Rattle.std.specs.Prelude.{◌≡◌, List, [], ◌∷◌, ◌++◌, true, false, not, length, filter, map, reverse, IfOk, OnOk, OnErr};
-ghost use Rattle.std.specs.List.{list_any, list_all};
+ghost use Rattle.std.specs.List.{list_any};
 ghost use Rattle.std.specs.Option.{option_copied};
-ghost use Rattle.rl_model.specs.Members.{key_of, is_of, is_on, enters, members_of, page_items, is_last_page};
-ghost use Rattle.rl_members.specs.Held.{with_member};
+ghost use Rattle.rl_model.specs.Members.{is_of, is_on, enters, has_too_many, members_of, page_items, is_last_page};
+ghost use Rattle.rl_members.specs.Held.{LeavesConn, LeavesKey, outgrows, with_items, with_member};
 ghost use Rattle.rl_types.specs.declared.presence.PresenceItem.{PresenceItem};
 
+use crate::changes::{put, take_out};
+use crate::member::{Member, all_ready};
 use crate::page::{clients_on, first_present, is_on};
-use crate::search::{past, put, take_out};
-use rl_ids::{Copied, List, MemberKey, NoMemory, Text};
+use crate::search::past;
+use crate::taking::take_all;
+use rl_ids::{List, MemberKey, NoMemory, Text};
 use rl_types::PresenceItem;
 use std::alloc::Global;
 use std::marker::Model;
@@ -15,13 +18,13 @@ use std::marker::Model;
 /// The members of a channel (RTP2): of each key that entered and hasn't left, the last item. A contract sees them as
 /// the list of these items, in order of key: by connection id, then by client id. (The order is this project's own.)
 ///
-/// With n members, a search looks at about log n keys. [`enter`](Members::enter) and [`leave`](Members::leave) then
-/// move those after the place in one move of memory, [`gone`](Members::gone) looks at each member twice, and a page
-/// costs a search and the items that it gives.
+/// With n members, a search looks at about log n keys. [`enter`](Members::enter), [`leave`](Members::leave) and each
+/// item of [`put_all`](Members::put_all) then move a word for each of those after the place, in one move of memory.
+/// [`gone`](Members::gone) looks at each member twice, and a page costs a search and the items that it gives.
 #[derive(Drop)]
 pub struct Members {
     // in order of key, which rises from each to the next
-    items: List<PresenceItem>,
+    held: Vec<Member>,
 }
 
 impl Model for Members {
@@ -31,9 +34,9 @@ impl Model for Members {
 
     ghost Value = { List PresenceItem };
 
-    ghost view = { λ m. m.items };
+    ghost view = { λ m. m.held.items };
 
-    ghost invariant = { λ m. IsRising m.items };
+    ghost invariant = { λ m. IsRising m.held.items };
 }
 
 impl Members {
@@ -42,7 +45,7 @@ impl Members {
         ensures { result ≡ [] }
     {
         Members {
-            items: List::new(alloc),
+            held: Vec::new(alloc),
         }
     }
 
@@ -50,13 +53,38 @@ impl Members {
     ///
     /// Where the members were those that a channel's items leave, they are now those that these and this one leave;
     /// this is told of an item that enters. `NoMemory` leaves them as before.
-    #[tactic(auto, using(crate::proofs::Calls::enter_members))]
     pub fn enter(&mut self, alloc: Global, item: &PresenceItem) -> Result<(), NoMemory>
         ensures step { OnOk result (self.new ≡ with_member item.now self.old) }
         ensures members { OnOk result ((latest : List PresenceItem) → enters item.now.action ≡ true → self.old ≡ members_of latest → self.new ≡ members_of (item.now ∷ latest)) }
         ensures err { OnErr result (self.new ≡ self.old) }
     {
-        put(&mut self.items, item.copy(alloc)?)
+        let member = Member::of(alloc, item)?;
+        self.held.reserve(1)?;
+        put(&mut self.held, member);
+        Ok(())
+    }
+
+    /// Takes the items of a put up, one after another (RTP2): those that enter as [`enter`](Members::enter) does, and
+    /// the others as [`leave`](Members::leave) does. It takes all of them, and answers `true`; or, where after one of
+    /// them more than [`MAX_MEMBERS`](rl_numbers::limits::MAX_MEMBERS) would stand, it takes none and answers `false`.
+    /// (The limit is this project's own.)
+    ///
+    /// Where the members were those that a channel's items leave, `false` is answered exactly where these have too
+    /// many after some of them, and after `true` the members are those that all these items leave together. All memory
+    /// is taken before the first change: after `false` and `NoMemory` the members are as before. It costs a search and
+    /// a move for each item, and copies no member.
+    pub fn put_all(&mut self, alloc: Global, items: &[PresenceItem]) -> Result<bool, NoMemory>
+        ensures limit { IfOk result (λ taken. taken ≡ not (outgrows self.old items.now)) }
+        ensures step { IfOk result (λ taken. taken ≡ true → self.new ≡ with_items items.now self.old) }
+        ensures verdict { IfOk result (λ taken. (latest : List PresenceItem) → self.old ≡ members_of latest → taken ≡ not (has_too_many latest items.now)) }
+        ensures members { IfOk result (λ taken. taken ≡ true → (latest : List PresenceItem) → self.old ≡ members_of latest → self.new ≡ members_of (reverse items.now ++ latest)) }
+        ensures refused { IfOk result (λ taken. taken ≡ false → self.new ≡ self.old) }
+        ensures err { OnErr result (self.new ≡ self.old) }
+    {
+        let ready = all_ready(alloc, items)?;
+        let changes = Vec::with_capacity(alloc, ready.len())?;
+        self.held.reserve(ready.len())?;
+        Ok(take_all(&mut self.held, ready, changes))
     }
 
     /// Takes the key's member away (RTP2e). It takes no memory, and answers whether there was one.
@@ -66,9 +94,9 @@ impl Members {
     pub fn leave(&mut self, key: &MemberKey) -> bool
         ensures held { result ≡ list_any (is_of key.now) self.old }
         ensures left { self.new ≡ filter (λ item. not (is_of key.now item)) self.old }
-        ensures members { (latest : List PresenceItem) → (item : PresenceItem) → enters item.action ≡ false → key_of item ≡ key.now → self.old ≡ members_of latest → self.new ≡ members_of (item ∷ latest) }
+        ensures members { LeavesKey key.now self.old self.new }
     {
-        take_out(&mut self.items, key)
+        take_out(&mut self.held, &key.conn, &key.client).removes()
     }
 
     /// Takes all members of a connection away, and answers their client ids in order. (That they leave together when
@@ -80,11 +108,11 @@ impl Members {
     pub fn gone(&mut self, alloc: Global, conn: &str) -> Result<List<Text>, NoMemory>
         ensures clients { IfOk result (λ clients. clients ≡ map (λ item. item.client) (filter (is_on conn.now) self.old)) }
         ensures left { OnOk result (self.new ≡ filter (λ item. not (is_on conn.now item)) self.old) }
-        ensures members { OnOk result ((latest : List PresenceItem) → (leaves : List PresenceItem) → list_all (λ item. not (enters item.action)) leaves ≡ true → map key_of leaves ≡ map key_of (filter (is_on conn.now) self.old) → self.old ≡ members_of latest → self.new ≡ members_of (reverse leaves ++ latest)) }
+        ensures members { OnOk result (LeavesConn conn.now self.old self.new) }
         ensures err { OnErr result (self.new ≡ self.old) }
     {
-        let clients = clients_on(alloc, self.items.as_slice(), conn)?;
-        self.items.retain(|item| !is_on(item, conn));
+        let clients = clients_on(alloc, self.held.as_slice(), conn)?;
+        self.held.retain(|one| !is_on(one, conn));
         Ok(clients)
     }
 
@@ -92,7 +120,7 @@ impl Members {
     pub fn on(&self, alloc: Global, conn: &str) -> Result<List<Text>, NoMemory>
         ensures { IfOk result (λ clients. clients ≡ map (λ item. item.client) (filter (is_on conn.now) self.now)) }
     {
-        clients_on(alloc, self.items.as_slice(), conn)
+        clients_on(alloc, self.held.as_slice(), conn)
     }
 
     /// A page of the members (RTP18): the first of those past a key, at most `max`, as PRESENT, and whether none
@@ -106,7 +134,7 @@ impl Members {
         ensures items { IfOk result (λ page. page.0 ≡ page_items (option_copied key.entry) max self.now) }
         ensures last { IfOk result (λ page. page.1 ≡ is_last_page (option_copied key.entry) max self.now) }
     {
-        let rest = past(self.items.as_slice(), key);
+        let rest = past(self.held.as_slice(), key);
         Ok((first_present(alloc, rest, max)?, rest.len() <= max))
     }
 
@@ -114,14 +142,6 @@ impl Members {
     pub fn count(&self) -> usize
         ensures { result ≡ length self.now }
     {
-        self.items.len()
-    }
-}
-
-impl Copied for Members {
-    fn copy(&self, alloc: Global) -> Result<Members, NoMemory> {
-        Ok(Members {
-            items: self.items.copy(alloc)?,
-        })
+        self.held.len()
     }
 }

@@ -1,6 +1,7 @@
 ghost use Rattle.std.specs.Prelude.{◌≡◌, IfOk, map, take, filter};
 ghost use Rattle.rl_model.specs.Members.{as_present, is_on};
 
+use crate::member::Member;
 use rl_ids::{Copied, List, NoMemory, Text};
 use rl_types::{PresenceAction, PresenceItem};
 use std::alloc::Global;
@@ -14,44 +15,44 @@ fn present(alloc: Global, item: &PresenceItem) -> Result<PresenceItem, NoMemory>
     Ok(made)
 }
 
-// These items as a sync tells them.
-fn all_present(alloc: Global, items: &[PresenceItem]) -> Result<List<PresenceItem>, NoMemory>
-    ensures { IfOk result (λ page. page ≡ map as_present items.now) }
+// These members as a sync tells them.
+fn all_present(alloc: Global, held: &[Member]) -> Result<List<PresenceItem>, NoMemory>
+    ensures { IfOk result (λ page. page ≡ map as_present held.now) }
 {
     let mut page = List::new(alloc);
-    for item in items {
-        page.push(present(alloc, item)?)?;
+    for one in held {
+        page.push(present(alloc, one.item())?)?;
     }
     Ok(page)
 }
 
-// The first of these items, at most `max`, as a sync tells them.
+// The first of these members, at most `max`, as a sync tells them.
 pub fn first_present(
     alloc: Global,
-    items: &[PresenceItem],
+    held: &[Member],
     max: usize,
 ) -> Result<List<PresenceItem>, NoMemory>
-    ensures { IfOk result (λ page. page ≡ map as_present (take max items.now)) }
+    ensures { IfOk result (λ page. page ≡ map as_present (take max held.now)) }
 {
-    let (first, _) = items.split_at(items.len().min(max));
+    let (first, _) = held.split_at(held.len().min(max));
     all_present(alloc, first)
 }
 
-// Whether the item is of this connection.
-pub fn is_on(item: &PresenceItem, conn: &str) -> bool
-    ensures { result ≡ is_on conn.now item.now }
+// Whether the member is of this connection.
+pub fn is_on(member: &Member, conn: &str) -> bool
+    ensures { result ≡ is_on conn.now member.now }
 {
-    conn == item.conn.as_str()
+    conn == member.item().conn.as_str()
 }
 
-// The client ids of the items of this connection, in order.
-pub fn clients_on(alloc: Global, items: &[PresenceItem], conn: &str) -> Result<List<Text>, NoMemory>
-    ensures { IfOk result (λ clients. clients ≡ map (λ item. item.client) (filter (is_on conn.now) items.now)) }
+// The client ids of the members of this connection, in order.
+pub fn clients_on(alloc: Global, held: &[Member], conn: &str) -> Result<List<Text>, NoMemory>
+    ensures { IfOk result (λ clients. clients ≡ map (λ item. item.client) (filter (is_on conn.now) held.now)) }
 {
     let mut clients = List::new(alloc);
-    for item in items {
-        if is_on(item, conn) {
-            clients.push(item.client.copy(alloc)?)?;
+    for one in held {
+        if is_on(one, conn) {
+            clients.push(one.item().client.copy(alloc)?)?;
         }
     }
     Ok(clients)

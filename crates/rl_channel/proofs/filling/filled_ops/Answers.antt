@@ -1,4 +1,4 @@
-use Rattle.std.proofs.Common.{◌≡◌, ℕ, suc, ◌+◌, ◌++◌, ◌∷◌, [], List, length, ap, sym, ◌∙◌, arith}
+use Rattle.std.proofs.Common.{◌≡◌, suc, ◌++◌, ◌∷◌, [], List, length, ap, sym, ◌∙◌, arith}
 use Rattle.rl_types.specs.declared.objects.ObjectOp.{ObjectOp}
 use Rattle.rl_channel.proofs.Operations.{ops_at_push, length_push}
 use Rattle.rl_channel.proofs.filling.filled_ops.Goals as goal

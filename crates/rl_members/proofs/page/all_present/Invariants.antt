@@ -4,5 +4,5 @@ use Rattle.rl_model.specs.Members.{as_present}
 use Rattle.rl_members.proofs.page.all_present.Given as goal
 
 -- the items so far are told
-abbrev pub invariant-loop-item : goal.invariant-loop-item
-invariant-loop-item l = l.page ≡ map as_present (take l.item-index l.items)
+abbrev pub invariant-loop-one : goal.invariant-loop-one
+invariant-loop-one l = l.page ≡ map as_present (take l.one-index l.held)

@@ -4,5 +4,5 @@ use Rattle.rl_model.specs.Members.{is_on}
 use Rattle.rl_members.proofs.page.clients_on.Given as goal
 
 -- the client ids so far are those of the items so far
-abbrev pub invariant-loop-item : goal.invariant-loop-item
-invariant-loop-item l = l.clients ≡ map (λ item. item.client) (filter (is_on l.conn) (take l.item-index l.items))
+abbrev pub invariant-loop-one : goal.invariant-loop-one
+invariant-loop-one l = l.clients ≡ map (λ item. item.client) (filter (is_on l.conn) (take l.one-index l.held))

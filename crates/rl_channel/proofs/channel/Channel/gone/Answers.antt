@@ -15,6 +15,7 @@ returns-in_err-place-clause-err c =
     stays c.from_residual-in_err-place.result c.args.self.now c.leave.new.self
     (λ parts keeps. c.in_err-place.ensures.err parts keeps)
     c.in_err-place.ensures.same_members
+    c.leave.ensures.objects
     c.in_err-place.ensures.same_clock
     c.leave.ensures.setup
 
@@ -32,5 +33,6 @@ returns-clause-decided c = λ past stands.
     (λ parts keeps. subst (λ (s : ChannelState). Keeps s.log (with_left (left_entry c.args.self.now.log.head c.clock_at-stamp.result c.args.conn c.in_ok-id.id c.in_ok-clients.clients) parts)) (sym c.self-2.view_is) (c.in_ok-place.ensures.log parts keeps))
     (λ parts keeps. c.forget.ensures.forgot parts keeps)
     (λ latest is. ap (λ (s : ChannelState). s.members) c.self-2.view_is ∙ c.in_ok-place.ensures.members latest are is)
+    (ap (λ (s : ChannelState). s.objects) c.self-2.view_is ∙ c.leave.ensures.objects)
     refl in
     (left.0, at_site c.args.self.now _ (Gone c.args.conn c.args.now ∷ past) (ap (λ (s : ChannelState). s.setup) c.self-2.view_is ∙ c.leave.ensures.setup) left.1)
