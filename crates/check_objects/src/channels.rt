@@ -24,12 +24,7 @@ fn verdict_text(alloc: Global, verdict: &Verdict) -> Result<String> {
     }
 }
 
-fn page_text(
-    alloc: Global,
-    states: &List<ObjectState>,
-    last: bool,
-    head: Place,
-) -> Result<String> {
+fn page_text(alloc: Global, states: &List<ObjectState>, last: bool, head: Place) -> Result<String> {
     let mut text = states_text(alloc, states)?;
     push_gap(&mut text)?;
     text.push_str(if last { "last" } else { "more" })?;
