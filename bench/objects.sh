@@ -12,7 +12,7 @@ cd "$(dirname "$0")/.."
 program=crates/bench_objects/out/bench_objects
 [ -x "$program" ] || { echo "build it first: cd crates/bench_objects && rt run -- sets 1 10 0 1" >&2; exit 1; }
 python3 - "$program" "${1:-1}" <<'PYTHON'
-import re, resource, shutil, subprocess, sys
+import re, resource, shutil, subprocess, sys, time
 program, factor = sys.argv[1], float(sys.argv[2])
 valgrind = ["valgrind", "--tool=cachegrind", "--cache-sim=no", "--cachegrind-out-file=/dev/null"]
 
@@ -62,10 +62,18 @@ def instructions_each():
     rounds = {name: min(2000, count) for name, (*_, count) in plans.items()}
     return {name: (counted(*plan, rounds[name]) - counted(*plan, 0)) / rounds[name] for name, (*plan, _) in plans.items()}
 
-# the most memory that a run takes, in bytes
+# the most memory that a run holds, in bytes, looked at while it goes on
 def memory(*plan):
-    ended = subprocess.run(["/usr/bin/env", "python3", "-c", "import resource, subprocess, sys; subprocess.run(sys.argv[1:], stdout=subprocess.DEVNULL, check=True); print(resource.getrusage(resource.RUSAGE_CHILDREN).ru_maxrss)"] + words(*plan), stdout=subprocess.PIPE, check=True)
-    return 1024 * int(ended.stdout)
+    most, running = 0, subprocess.Popen(words(*plan), stdout=subprocess.DEVNULL)
+    while running.poll() is None:
+        try:
+            found = re.search(r"VmHWM:\s+(\d+)", open(f"/proc/{running.pid}/status").read())
+        except OSError:
+            break
+        most = max(most, 1024 * int(found.group(1)) if found else 0)
+        time.sleep(0.01)
+    running.wait()
+    return most
 
 def print_ratios(each, unit):
     frame = each["frames alone"]
@@ -87,6 +95,6 @@ for name, each in seconds.items():
 print_ratios(seconds, "nanoseconds")
 if instructions:
     print_ratios(instructions, "instructions")
-full, none = memory("frames", 1000, 10, 999, 0), memory("frames", 0, 0, 0, 0)
-print(f"memory: a run with a full pool, and with what told it, takes at most {full / 1e6:.1f} MB, one with an empty pool {none / 1e6:.1f} MB")
+full, none = memory("frames", 1000, 10, 999, 1000000), memory("frames", 0, 0, 0, 1000000)
+print(f"memory: a run with a full pool, and with what told it, holds at most {full / 1e6:.1f} MB, one with an empty pool {none / 1e6:.1f} MB")
 PYTHON
