@@ -63,7 +63,7 @@ module _ {K T : Type 0} (cmp : K → K → Ordering) (total : IsTotalOrder cmp) 
   abbrev pub OfIt : (K → Option T) → Type 0
   OfIt g = (key : K) (x : T) → g key ≡ Some x → key ≡ key_of x
 
-  abbrev AllLater : K → List T → Type 0
+  abbrev pub AllLater : K → List T → Type 0
   AllLater key all = AllByRecursion (λ x. cmp key (key_of x) ≡ Less) all
 
   cons_same : (x y : Option T) (xs ys : List T) → x ≡ y → xs ≡ ys → cons_option x xs ≡ cons_option y ys
@@ -81,6 +81,19 @@ module _ {K T : Type 0} (cmp : K → K → Ordering) (total : IsTotalOrder cmp) 
   later : (key : K) (g : K → Option T) (keys : List K) → OfIt g → AllAbove key keys → AllLater key (filter_map g keys)
   later key g [] of all = tt
   later key g (other ∷ keys) of all = later_at key other (g other) (filter_map g keys) (of other) all.0 (later key g keys of all.1)
+
+  -- what rising keys show rises
+  abbrev pub AllRise : List T → Type 0
+  AllRise [] = ⊤
+  AllRise (x ∷ all) = AllLater (key_of x) all × AllRise all
+
+  rises_at : (key : K) (o : Option T) (all : List T) → ((y : T) → o ≡ Some y → key ≡ key_of y) → AllLater key all → AllRise all → AllRise (cons_option o all)
+  rises_at key None all of later rise = rise
+  rises_at key (Some y) all of later rise = (subst (λ (k : K). AllLater k all) (of y refl) later, rise)
+
+  pub shown_rise : (g : K → Option T) (keys : List K) → OfIt g → KeysRise keys → AllRise (filter_map g keys)
+  shown_rise g [] of rise = tt
+  shown_rise g (key ∷ keys) of rise = rises_at key (g key) (filter_map g keys) (of key) (later key g keys of rise.0) (shown_rise g keys of rise.1)
 
   put_less : (x other : T) (all : List T) → cmp (key_of x) (key_of other) ≡ Less → put x (other ∷ all) ≡ x ∷ other ∷ all
   put_less x other all h = rw h refl

@@ -31,7 +31,7 @@ use Rattle.rl_objmodel.proofs.Entering.{put_key, put, KeysRise, rise_with, TiedI
 
 -- TEXTS WITH SOMETHING AT EACH
 
-abbrev text_cmp : List ℕ → List ℕ → Ordering
+abbrev pub text_cmp : List ℕ → List ℕ → Ordering
 text_cmp a b = slice_cmp nat_cmp a b
 
 text_is : (T : Type 0) (text : List ℕ) (texts : List (List ℕ)) → with_text text texts ≡ put_key {T = List ℕ × T} text_cmp nat_list_cmp_total (λ p. p.0) text texts
@@ -91,11 +91,11 @@ above_top : (serial : OpSerial) (o : Option OpSerial) → IsBelowAt serial o →
 above_top serial None h = refl
 above_top serial (Some t) h = ap (λ (b : Bool). cond b serial t) h
 
-rise_sites : (ss : List OpSerial) → KeysRise {T = List ℕ × OpSerial} text_cmp nat_list_cmp_total (λ q. q.0) (sites_in ss)
+pub rise_sites : (ss : List OpSerial) → KeysRise {T = List ℕ × OpSerial} text_cmp nat_list_cmp_total (λ q. q.0) (sites_in ss)
 rise_sites [] = tt
 rise_sites (t ∷ ss) = rise_text OpSerial t.site (sites_in ss) (rise_sites ss)
 
-site_named : (ss : List OpSerial) (site : List ℕ) (q : List ℕ × OpSerial) → site_of ss site ≡ Some q → site ≡ q.0
+pub site_named : (ss : List OpSerial) (site : List ℕ) (q : List ℕ × OpSerial) → site_of ss site ≡ Some q → site ≡ q.0
 site_named ss site q h = by (greatest_serial (filter (is_at site) ss)) h
   where
     by : (o : Option OpSerial) → option_map (λ (t : OpSerial). (site, t)) o ≡ Some q → site ≡ q.0
@@ -201,7 +201,7 @@ above_write : (there : Option Write) (w : Write) → IsWriteAt w.serial there �
 above_write None w h = refl
 above_write (Some v) w h = ap (λ (b : Bool). cond b w v) h
 
-cell_named : (ticked : ℕ) (key : List ℕ) (there : Option Write) (p : List ℕ × Write) → option_and_then (kept_write ticked key) there ≡ Some p → key ≡ p.0
+pub cell_named : (ticked : ℕ) (key : List ℕ) (there : Option Write) (p : List ℕ × Write) → option_and_then (kept_write ticked key) there ≡ Some p → key ≡ p.0
 cell_named ticked key None p h = cc
 cell_named ticked key (Some w) p h = by (is_collected_write ticked w.written) h
   where
@@ -213,7 +213,7 @@ rise_texts : (ts texts : List (List ℕ)) → KeysRise {T = List ℕ × Write} t
 rise_texts [] texts h = h
 rise_texts (t ∷ ts) texts h = rise_text Write t (with_texts ts texts) (rise_texts ts texts h)
 
-rise_keys : (before : List Stamped) → KeysRise {T = List ℕ × Write} text_cmp nat_list_cmp_total (λ q. q.0) (keys_in before)
+pub rise_keys : (before : List Stamped) → KeysRise {T = List ℕ × Write} text_cmp nat_list_cmp_total (λ q. q.0) (keys_in before)
 rise_keys [] = tt
 rise_keys (x ∷ before) = rise_texts (keys_of x.op.op) (keys_in before) (rise_keys before)
 

@@ -68,7 +68,7 @@ id_is (Made kind hash millis) (Made kind2 hash2 millis2) h =
     ∙ ap (λ (t : List ℕ). made kind2 t millis) (texts_same hash hash2 rest.0)
     ∙ ap (made kind2 hash2) (number_is millis millis2 rest.1)
 
-ids_total : IsTotalOrder id_cmp
+pub ids_total : IsTotalOrder id_cmp
 ids_total = on_total object_id_text nat_list_cmp_total
 
 equal_id : (a b : ObjectId) → IsIdInRange a → IsIdInRange b → id_cmp a b ≡ Equal → a ≡ b
@@ -97,7 +97,7 @@ held_is : (held : Held) (pool : List Held) → with_held held pool ≡ put id_cm
 held_is held [] = refl
 held_is held (other ∷ pool) = ap (λ more. match_ordering (id_cmp held.id other.id) (held ∷ other ∷ pool) (held ∷ pool) (other ∷ more)) (held_is held pool)
 
-ids_rise : (latest : List Stamped) → KeysRise {T = Held} id_cmp ids_total (λ held. held.id) (ids_in latest)
+pub ids_rise : (latest : List Stamped) → KeysRise {T = Held} id_cmp ids_total (λ held. held.id) (ids_in latest)
 ids_rise [] = (tt, tt)
 ids_rise (x ∷ latest) = subst (λ ids. KeysRise {T = Held} id_cmp ids_total (λ held. held.id) ids) (sym (with_is (id_of x) (ids_in latest))) (rise_with {T = Held} id_cmp ids_total (λ held. held.id) (id_of x) (ids_in latest) (ids_rise latest))
 
@@ -136,7 +136,7 @@ kept_id ticked id before (Some delete) held h = by (not (is_root id) && is_colle
     by true e = cc
     by false e = ap (λ (one : Held). one.id) (some_is (tombstone id before delete.stamp) held e)
 
-kept_named : (ticked : ℕ) (latest : List Stamped) (id : ObjectId) (held : Held) → kept ticked latest id ≡ Some held → id ≡ held.id
+pub kept_named : (ticked : ℕ) (latest : List Stamped) (id : ObjectId) (held : Held) → kept ticked latest id ≡ Some held → id ≡ held.id
 kept_named ticked latest id held h = kept_id ticked id (own id latest) (find deletes (own id latest)) held h
 
 abbrev kept_of : ℕ → ObjectId → List Stamped → Option Held

@@ -14,3 +14,5 @@ pub mod FollowingObjects
 pub mod FollowingPools
 pub mod FollowingRules
 pub mod Lasting
+pub mod Living
+pub mod Showing

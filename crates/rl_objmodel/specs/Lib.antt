@@ -10,3 +10,5 @@ pub mod Collecting
 pub mod Agreeing
 pub mod Following
 pub mod Lasting
+pub mod Living
+pub mod Showing

@@ -4,6 +4,8 @@ ghost use Rattle.rl_objmodel.specs.Collecting.{LastTickCounts, TicksCollect};
 ghost use Rattle.rl_objmodel.specs.Commuting.{EitherOrder};
 ghost use Rattle.rl_objmodel.specs.Following.{OneMore, RulesAgree};
 ghost use Rattle.rl_objmodel.specs.Lasting.{EntriesFollow, EntriesKept, EntriesLast, LastingLonger};
+ghost use Rattle.rl_objmodel.specs.Living.{LiveIsKept, LiveIsObjects};
+ghost use Rattle.rl_objmodel.specs.Showing.{KeptInOrder};
 ghost use Rattle.rl_objmodel.specs.Examples.{CountersCount, CellsAreGreatest, LengthsAreBounded, TargetsAreJudged, ReferencesAreJudged, NumbersAreBounded, PoolsAreBounded, TombstonesAreCollected, LiveObjectsRead, StepsAreDefined, StepsAreTaken};
 
 /// What counters have: the count of their create, and the amounts of their increments.
@@ -132,4 +134,22 @@ pub fn lasting_longer()
 #[tactic(auto, using(crate::proofs::FollowingRules::entries_kept))]
 pub fn entries_kept()
     ensures { EntriesKept }
+{}
+
+/// What is live of the objects that are kept of a log is what is live by its operations, whenever the last Tick was.
+#[tactic(auto, using(crate::proofs::Living::live_is_kept))]
+pub fn live_is_kept()
+    ensures { LiveIsKept }
+{}
+
+/// Read without serials, it is the live objects of the log.
+#[tactic(auto, using(crate::proofs::Living::live_is_objects))]
+pub fn live_is_objects()
+    ensures { LiveIsObjects }
+{}
+
+/// Pages show what is kept in order: the objects by their ids, the sites of each, and the keys of each map, each once.
+#[tactic(auto, using(crate::proofs::Showing::kept_in_order))]
+pub fn kept_in_order()
+    ensures { KeptInOrder }
 {}
