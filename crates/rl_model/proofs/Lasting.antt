@@ -155,7 +155,7 @@ put_lasts at before conn serial (Messages items) order holds Adds is = no_more a
 put_lasts at before conn serial (Presence items) order holds Adds is = no_more at.now at.site (entries before) (Some (entry_of at (length (entries before)) conn serial (Presence items))) refl holds
 put_lasts at before conn serial (Objects ops) order holds Adds is = some_more at (entries before) conn serial ops order holds (adds_passes at before conn serial (Objects ops) is)
 
-gone_none : (head now conn : ℕ) (gone : List PresenceItem) → ops_added (entry_of_gone head now conn gone) ≡ []
+pub gone_none : (head now conn : ℕ) (gone : List PresenceItem) → ops_added (entry_of_gone head now conn gone) ≡ []
 gone_none head now conn [] = refl
 gone_none head now conn (member ∷ gone) = by_test (head == MAX_PLACE)
   where

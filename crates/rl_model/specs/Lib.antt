@@ -17,3 +17,4 @@ pub mod Examples
 pub mod ChannelExamples
 pub mod Limits
 pub mod Lasting
+pub mod Living

@@ -2,6 +2,7 @@
 ghost use Rattle.rl_model.specs.ChannelExamples.{AnswersMembers, AnswersObjects};
 ghost use Rattle.rl_model.specs.Examples.{Prints, Refuses};
 ghost use Rattle.rl_model.specs.Lasting.{LogsLast, PutsFollow};
+ghost use Rattle.rl_model.specs.Living.{ChannelsShowLive};
 
 /// The reports of small scripts.
 #[tactic(auto, using(crate::proofs::Printed::printed))]
@@ -38,4 +39,10 @@ pub fn puts_follow()
 #[tactic(auto, using(crate::proofs::Answered::answered_objects))]
 pub fn objects_answer()
     ensures { AnswersObjects }
+{}
+
+/// What is live of the objects that a channel keeps is what is live by its whole log, whatever Ticks collected.
+#[tactic(auto, using(crate::proofs::Living::channels_show_live))]
+pub fn channels_show_live()
+    ensures { ChannelsShowLive }
 {}
