@@ -1,7 +1,6 @@
 -- What one operation makes of the objects that are held: the form that the machines cite.
 use Rattle.std.specs.Prelude.{ℕ, suc, Bool, true, false, ◌&&◌, ◌||◌, not, if◌then◌else◌, nat_lt, List, [], ◌∷◌, filter, filter_map, find, map, Option, Some, None, is_none, is_some, option_map, unwrap_or, ℤ, pos, ◌+ℤ◌, unsigned_abs}
 use Rattle.std.specs.Option.{option_map_or}
-use Rattle.std.specs.List.{list_any}
 use Rattle.std.specs.Ordering.{match_ordering, is_eq}
 use Rattle.rl_numbers.specs.declared.limits.TheConstants.{MAX_COUNTER_SUM}
 use Rattle.rl_ids.specs.declared.objects.ObjectKind.{ObjectKind}
@@ -142,10 +141,6 @@ entry_write serial entry = (entry.0, value_written serial entry.1)
 
 abbrev pub entry_writes : OpSerial → List (List ℕ × MapValue) → Cells
 entry_writes serial entries = map (entry_write serial) entries
-
--- one of these entries changes what stands at its key
-abbrev pub any_changes : OpSerial → List (List ℕ × MapValue) → Cells → Bool
-any_changes serial entries cells = list_any (λ (entry : List ℕ × MapValue). changes entry.0 serial cells) entries
 
 -- what a page told: a tombstone cell has the moment at which it was told
 abbrev pub told_written : ℕ → Option MapValue → Written
