@@ -4,7 +4,7 @@ use Rattle.rl_numbers.specs.declared.limits.TheConstants.{OBJECT_WEIGHT}
 use Rattle.rl_ids.specs.declared.serials.OpSerial.{OpSerial}
 use Rattle.rl_types.specs.declared.objects.MapCell.{MapCell}
 use Rattle.rl_types.specs.Weight.{cell_weight}
-use Rattle.rl_objmodel.specs.Held.{Cells, Write, shown_cell}
+use Rattle.rl_objmodel.specs.Held.{Cells, Write, is_collected_write, shown_cell}
 use Rattle.rl_objmodel.specs.Places.{IsRising, at_text}
 use Rattle.rl_objmodel.specs.Steps.{MapHeld, changes, told_write, told_written}
 
@@ -47,6 +47,12 @@ write_weight key write = cell_weight (shown_cell (key, write))
 pub record IsMap (cells : List (List ℕ × MapCell)) (stamps : List ℕ) (weight : ℕ) : Type 0 where
   pub kept : IsKept cells stamps
   pub weighs : weight ≡ map_weight (stamped cells stamps)
+
+-- WHAT IS COLLECTED
+
+-- the cells without the one at a place, where that is a tombstone cell which a Tick collects
+abbrev pub collected_at : ℕ → List ℕ × Write → ℕ → Cells → Cells
+collected_at now cell at cells = if is_collected_write now cell.1.written then remove cells at else cells
 
 -- WHAT STOOD
 

@@ -1,7 +1,7 @@
-ghost use Rattle.std.specs.Prelude.{◌≡◌, ◌<◌, ℕ, List, if◌then◌else◌, length, remove, slice_index_or};
+ghost use Rattle.std.specs.Prelude.{◌≡◌, ◌<◌, ℕ, List, length, slice_index_or};
 ghost use Rattle.rl_objmodel.specs.Held.{Write, is_collected_write};
 ghost use Rattle.rl_objmodel.specs.Steps.{collected_cells, told_written};
-ghost use Rattle.rl_livemap.specs.Stamps.{stamped, IsKept, IsMap};
+ghost use Rattle.rl_livemap.specs.Stamps.{collected_at, stamped, IsKept, IsMap};
 
 use crate::weights::weigh;
 use rl_ids::{List, Moment, Text};
@@ -22,7 +22,7 @@ fn is_collected(cell: &MapCell, stamp: Moment, now: Moment) -> bool
 fn drop_at(cells: &mut List<(Text, MapCell)>, stamps: &mut List<Moment>, at: usize, now: Moment)
     requires within { at < length cells.old }
     requires even { length stamps.old ≡ length cells.old }
-    ensures step { (d : List ℕ × Write) → stamped cells.new stamps.new ≡ (if is_collected_write now (slice_index_or (stamped cells.old stamps.old) at d).1.written then remove (stamped cells.old stamps.old) at else stamped cells.old stamps.old) }
+    ensures step { (d : List ℕ × Write) → stamped cells.new stamps.new ≡ collected_at now (slice_index_or (stamped cells.old stamps.old) at d) at (stamped cells.old stamps.old) }
     ensures even { length stamps.new ≡ length cells.new }
 {
     if is_collected(&cells.as_slice()[at].1, stamps.as_slice()[at], now) {
