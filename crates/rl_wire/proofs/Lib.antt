@@ -8,3 +8,4 @@ pub mod Law
 pub mod Named
 pub mod Plains
 pub mod TextLengths
+pub mod PutOut

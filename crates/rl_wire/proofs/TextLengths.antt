@@ -15,10 +15,11 @@ use Rattle.rl_types.specs.declared.messages.Given.TheVariants as given
 use Rattle.rl_types.specs.declared.messages.Item.{Item}
 use Rattle.rl_types.specs.declared.presence.PresenceItem.{PresenceItem}
 use Rattle.rl_types.specs.Weight.{option_len}
+use Rattle.rl_jsonfields.specs.declared.names.Field.{Field}
 use Rattle.rl_jsonfields.specs.declared.names.Field.TheVariants as fields
 use Rattle.rl_jsonfields.specs.Names.{spelled}
 use Rattle.rl_jsonfields.specs.Texts.{num, with_text, with_number, text_unless, number_unless}
-use Rattle.rl_jsonfields.proofs.Lengths.{bound, items_bound, members_bound, text_length, text_field_bound, number_field_bound, value_field_bound, some_text_bound, some_number_bound, text_unless_length}
+use Rattle.rl_jsonfields.proofs.Lengths.{bound, items_bound, members_bound, text_length, text_field_bound, number_field_bound, value_field_bound, some_text_bound, some_number_bound, text_unless_length, value_named_bound}
 use Rattle.rl_wireitems.specs.Items.{message_value, message_values, number_of, presence_with, presence_value, presence_values, sync_value, sync_values, values_at, id_at}
 use Rattle.rl_wireobj.specs.Operations.{op_json}
 use Rattle.rl_wireobj.specs.States.{state_json}
@@ -26,31 +27,72 @@ use Rattle.rl_wireobj.proofs.Lengths.{ops_length, states_length}
 use Rattle.rl_wire.specs.declared.details.ConnectionDetails.{ConnectionDetails}
 use Rattle.rl_wire.specs.Tables.{at_number}
 use Rattle.rl_wire.specs.Sendable.{IsSendable}
-use Rattle.rl_wire.specs.Sizes.{message_bytes, presence_bytes, given_bytes, cursor_bytes, head_bytes, text_bytes, item_count, entry_count, cell_count}
+use Rattle.rl_wire.specs.Sizes.{message_bytes, presence_bytes, given_bytes, cursor_bytes, head_bytes, text_bytes, item_count, object_count, entry_count, cell_count}
 use Rattle.rl_wire.specs.Texts.{action, code_names, code_name, error_value, with_error, given_text, cursor_text, head_members, details_value, details_of, frame_members, frame_value, frame_text}
 use Rattle.rl_wire.proofs.Plains.{frame_plain}
 
 -- ---- items
 
-message_length : (m : Item) → bound (message_value m) ≤ 6 * message_bytes m + 900
+-- a text, and a number, at a field with a name of so many characters
+named_text : (f : Field) (n : ℕ) (o : Option (List ℕ)) (ms : Members) → length (spelled f) ≡ n → members_bound (with_text f o ms) ≤ 6 * option_len o + n + 6 + members_bound ms
+named_text f n None ms e = omega arith
+named_text f n (Some s) ms e = omega (arith, e, value_named_bound f (string s) ms)
+
+named_number : (f : Field) (n : ℕ) (o : Option ℕ) (ms : Members) → length (spelled f) ≡ n → members_bound (with_number f o ms) ≤ n + 24 + members_bound ms
+named_number f n None ms e = omega arith
+named_number f n (Some m) ms e = omega (arith, e, value_named_bound f (num m) ms)
+
+action_is : length (spelled fields.Action) ≡ 6
+unfolding spelled
+action_is = refl
+
+client_is : length (spelled fields.ClientId) ≡ 8
+unfolding spelled
+client_is = refl
+
+connection_is : length (spelled fields.ConnectionId) ≡ 12
+unfolding spelled
+connection_is = refl
+
+data_is : length (spelled fields.Data) ≡ 4
+unfolding spelled
+data_is = refl
+
+encoding_is : length (spelled fields.Encoding) ≡ 8
+unfolding spelled
+encoding_is = refl
+
+id_is : length (spelled fields.Id) ≡ 2
+unfolding spelled
+id_is = refl
+
+name_is : length (spelled fields.Name) ≡ 4
+unfolding spelled
+name_is = refl
+
+timestamp_is : length (spelled fields.Timestamp) ≡ 9
+unfolding spelled
+timestamp_is = refl
+
+message_length : (m : Item) → bound (message_value m) ≤ 6 * message_bytes m + 140
 unfolding message_value
 message_length m =
     let a = with_text fields.Id m.id no_members in
     let b = with_text fields.Name m.name a in
     let c = with_text fields.Data m.payload b in
     let d = with_text fields.Encoding m.encoding c in
-    omega (arith, some_text_bound fields.ClientId m.client d, some_text_bound fields.Encoding m.encoding c, some_text_bound fields.Data m.payload b, some_text_bound fields.Name m.name a, some_text_bound fields.Id m.id no_members)
+    omega (arith, named_text fields.ClientId 8 m.client d client_is, named_text fields.Encoding 8 m.encoding c encoding_is, named_text fields.Data 4 m.payload b data_is, named_text fields.Name 4 m.name a name_is, named_text fields.Id 2 m.id no_members id_is)
 
-messages_length : (ms : List Item) → items_bound (items_of (map message_value ms)) ≤ 6 * sum_by message_bytes ms + 1000 * length ms + 1
+messages_length : (ms : List Item) → items_bound (items_of (map message_value ms)) ≤ 6 * sum_by message_bytes ms + 150 * length ms + 1
 messages_length [] = omega arith
 messages_length (m ∷ ms) = omega (arith, message_length m, messages_length ms, sum_by-cons message_bytes m ms)
 
-message_values_length : (ms : List Item) → items_bound (message_values ms) ≤ 6 * sum_by message_bytes ms + 1000 * length ms + 1
+message_values_length : (ms : List Item) → items_bound (message_values ms) ≤ 6 * sum_by message_bytes ms + 150 * length ms + 1
 unfolding message_values
 message_values_length ms = messages_length ms
 
 member_length : (p : PresenceItem) (client conn id : Option (List ℕ)) (stamp : Option ℕ)
-    → bound (presence_with p client conn id stamp) ≤ 6 * (option_len client + option_len conn + option_len id + option_len p.payload + option_len p.encoding) + 990
+    → bound (presence_with p client conn id stamp) ≤ 6 * (option_len client + option_len conn + option_len id + option_len p.payload + option_len p.encoding) + 140
 member_length p client conn id stamp =
     let a = put (spelled fields.Action) (num (number_of p.action)) no_members in
     let b = with_text fields.ClientId client a in
@@ -58,9 +100,9 @@ member_length p client conn id stamp =
     let d = with_text fields.Id id c in
     let e = with_number fields.Timestamp stamp d in
     let f = with_text fields.Data p.payload e in
-    omega (arith, some_text_bound fields.Encoding p.encoding f, some_text_bound fields.Data p.payload e, some_number_bound fields.Timestamp stamp d, some_text_bound fields.Id id c, some_text_bound fields.ConnectionId conn b, some_text_bound fields.ClientId client a, number_field_bound fields.Action (number_of p.action) no_members)
+    omega (arith, named_text fields.Encoding 8 p.encoding f encoding_is, named_text fields.Data 4 p.payload e data_is, named_number fields.Timestamp 9 stamp d timestamp_is, named_text fields.Id 2 id c id_is, named_text fields.ConnectionId 12 conn b connection_is, named_text fields.ClientId 8 client a client_is, value_named_bound fields.Action (num (number_of p.action)) no_members, action_is)
 
-presence_length : (h : Head) (i : ℕ) (p : PresenceItem) → bound (presence_value h i p) ≤ 6 * presence_bytes p + 990
+presence_length : (h : Head) (i : ℕ) (p : PresenceItem) → bound (presence_value h i p) ≤ 6 * presence_bytes p + 140
 unfolding presence_value
 presence_length h i p =
     let client = text_unless [] p.client in
@@ -68,23 +110,23 @@ presence_length h i p =
     let id = text_unless (unwrap_or (id_at h i) []) p.id in
     omega (arith, member_length p client conn id (number_unless (unwrap_or h.stamp 0) p.stamp), text_unless_length [] p.client, text_unless_length (unwrap_or h.conn []) p.conn, text_unless_length (unwrap_or (id_at h i) []) p.id)
 
-presence_length_at : (h : Head) (i : ℕ) (ps : List PresenceItem) → items_bound (items_of (values_at (presence_value h) i ps)) ≤ 6 * sum_by presence_bytes ps + 1000 * length ps + 1
+presence_length_at : (h : Head) (i : ℕ) (ps : List PresenceItem) → items_bound (items_of (values_at (presence_value h) i ps)) ≤ 6 * sum_by presence_bytes ps + 150 * length ps + 1
 presence_length_at h i [] = omega arith
 presence_length_at h i (p ∷ ps) = omega (arith, presence_length h i p, presence_length_at h (i + 1) ps, sum_by-cons presence_bytes p ps)
 
-presence_values_length : (h : Head) (ps : List PresenceItem) → items_bound (presence_values h ps) ≤ 6 * sum_by presence_bytes ps + 1000 * length ps + 1
+presence_values_length : (h : Head) (ps : List PresenceItem) → items_bound (presence_values h ps) ≤ 6 * sum_by presence_bytes ps + 150 * length ps + 1
 unfolding presence_values
 presence_values_length h ps = presence_length_at h 0 ps
 
-sync_length : (p : PresenceItem) → bound (sync_value p) ≤ 6 * presence_bytes p + 990
+sync_length : (p : PresenceItem) → bound (sync_value p) ≤ 6 * presence_bytes p + 140
 unfolding sync_value
 sync_length p = member_length p (Some p.client) (Some p.conn) (Some p.id) (Some p.stamp)
 
-syncs_length : (ps : List PresenceItem) → items_bound (items_of (map sync_value ps)) ≤ 6 * sum_by presence_bytes ps + 1000 * length ps + 1
+syncs_length : (ps : List PresenceItem) → items_bound (items_of (map sync_value ps)) ≤ 6 * sum_by presence_bytes ps + 150 * length ps + 1
 syncs_length [] = omega arith
 syncs_length (p ∷ ps) = omega (arith, sync_length p, syncs_length ps, sum_by-cons presence_bytes p ps)
 
-sync_values_length : (ps : List PresenceItem) → items_bound (sync_values ps) ≤ 6 * sum_by presence_bytes ps + 1000 * length ps + 1
+sync_values_length : (ps : List PresenceItem) → items_bound (sync_values ps) ≤ 6 * sum_by presence_bytes ps + 150 * length ps + 1
 unfolding sync_values
 sync_values_length ps = syncs_length ps
 
@@ -169,7 +211,7 @@ details_length d =
     omega (arith, number_field_bound fields.MaxMessageSize d.size c, number_field_bound fields.MaxIdleInterval d.idle b, number_field_bound fields.ConnectionStateTtl d.ttl a, text_field_bound fields.ConnectionKey d.key no_members)
 
 abbrev Short : Frame → Type 0
-Short f = members_bound (frame_members f) ≤ 6 * text_bytes f + 1000 * item_count f + 50 * entry_count f + 400 * cell_count f + 1900
+Short f = members_bound (frame_members f) ≤ 6 * text_bytes f + 150 * item_count f + 1000 * object_count f + 50 * entry_count f + 400 * cell_count f + 1900
 
 members_length : (f : Frame) → IsSendable f → Short f
 unfolding frame_members
@@ -213,5 +255,5 @@ members_length (frames.ObjectSync channel at ss) sendable =
     let b = with_text fields.ChannelSerial (option_map cursor_text at) a in
     omega (arith, value_field_bound fields.State (array (items_of (map state_json ss))) b, states_length ss sendable.2, some_text_bound fields.ChannelSerial (option_map cursor_text at) a, cursor_length at, channel_length channel 20)
 
-pub frame_length : (f : Frame) → IsSendable f → length (frame_text f) ≤ 6 * text_bytes f + 1000 * item_count f + 50 * entry_count f + 400 * cell_count f + 2000
+pub frame_length : (f : Frame) → IsSendable f → length (frame_text f) ≤ 6 * text_bytes f + 150 * item_count f + 1000 * object_count f + 50 * entry_count f + 400 * cell_count f + 2000
 frame_length f h = omega (arith, text_length (frame_value f) (frame_plain f h), members_length f h)

@@ -4,3 +4,4 @@ pub mod Sizes
 pub mod Tables
 pub mod Texts
 pub mod Tokens
+pub mod PutOut

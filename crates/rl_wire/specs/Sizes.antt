@@ -52,27 +52,18 @@ text_bytes frames.Auth = 0
 text_bytes (frames.Object head ops) = head_bytes head + sum_by op_bytes ops
 text_bytes (frames.ObjectSync channel at states) = length channel + cursor_bytes at + sum_by state_bytes states
 
+-- messages and presence items
 abbrev pub item_count : Frame → ℕ
-item_count frames.Heartbeat = 0
-item_count (frames.Ack serial count) = 0
-item_count (frames.Nack serial count code) = 0
-item_count frames.Connect = 0
-item_count (frames.Connected conn key ttl idle size code) = 0
-item_count frames.Disconnect = 0
-item_count (frames.Disconnected code) = 0
-item_count frames.Close = 0
-item_count frames.Closed = 0
-item_count (frames.Error channel code) = 0
-item_count (frames.Attach channel serial) = 0
-item_count (frames.Attached channel serial flags code) = 0
-item_count (frames.Detach channel) = 0
-item_count (frames.Detached channel code) = 0
 item_count (frames.Presence head items) = length items
 item_count (frames.Message head items) = length items
 item_count (frames.Sync channel at items) = length items
-item_count frames.Auth = 0
-item_count (frames.Object head ops) = length ops
-item_count (frames.ObjectSync channel at states) = length states
+item_count _ = 0
+
+-- operations and objects
+abbrev pub object_count : Frame → ℕ
+object_count (frames.Object head ops) = length ops
+object_count (frames.ObjectSync channel at states) = length states
+object_count _ = 0
 
 -- the entries with which maps are made
 abbrev pub entry_count : Frame → ℕ
