@@ -30,7 +30,7 @@ use Rattle.rl_model.specs.Reply.{is_resumed, joined_place, asked_place}
 use Rattle.rl_model.specs.Records.{the_epoch, the_site, segment_from, segments_after, segment_end, caught_up, got_of, got_in}
 use Rattle.rl_model.specs.Client.{connected, opened, dropped, attach_in, act, channel_of}
 use Rattle.rl_model.specs.World.{World, the_conn, feed_conn, serve_for, serve_next, finish, serve_all, settle_in, settle, feed, with_client, one_message, after_line, final, empty_world, changed, named_by}
-use Rattle.rl_claims.specs.Sound.{SomeOf, Joining, joinings, told, MayBegin, IsSoundSegment, IsRecovered, NoneRecovered, OnlyFirstRecovered, AreInOrder, IsSound, HasSoundRecord, HasSoundRecords}
+use Rattle.rl_claims.specs.Sound.{Joining, joinings, MayBegin, IsSoundSegment, beginning, BeginInOrder, IsRecovered, NoneRecovered, OnlyFirstRecovered, AreInOrder, IsSound, HasSoundRecord, HasSoundRecords}
 use Rattle.rl_claims.proofs.Runs.{run_stays, log_grows}
 
 pub each_weaker : {X : Type 0} (P Q : X → Type 0) → ((x : X) → P x → Q x) → (xs : List X) → AllByRecursion P xs → AllByRecursion Q xs
@@ -43,21 +43,26 @@ each_and P (y ∷ ys) x each own = (each.0, each_and P ys x each.1 own)
 
 -- WHILE THE CHANNEL GOES ON
 
-abbrev pub Began : Segment → Joining → Type 0
-Began segment joining = (told the_epoch the_site joining ≡ segment.start) × MayBegin the_epoch the_site joining segment.cause
+abbrev pub Begun : List ChannelEvent → List (ℕ × Cause) → Type 0
+Begun past begun = BeginInOrder the_epoch the_site (joinings past) begun
 
-pub joins_grow : (event : ChannelEvent) (past : List ChannelEvent) (segment : Segment) → SomeOf (Began segment) (joinings past) → SomeOf (Began segment) (joinings (event ∷ past))
-joins_grow (Join asked) past segment some = inr some
-joins_grow (Put conn serial body now) past segment some = some
-joins_grow (Read from max_count) past segment some = some
-joins_grow (MemberPage after most) past segment some = some
-joins_grow (ObjectPage after most) past segment some = some
-joins_grow (Gone conn now) past segment some = some
-joins_grow (Tick now) past segment some = some
-joins_grow Census past segment some = some
+begun_grows : (event : ChannelEvent) (past : List ChannelEvent) (begun : List (ℕ × Cause)) → Begun past begun → Begun (event ∷ past) begun
+begun_grows (Join asked) past begun order = inl order
+begun_grows (Put conn serial body now) past begun order = order
+begun_grows (Read from max_count) past begun order = order
+begun_grows (MemberPage after most) past begun order = order
+begun_grows (ObjectPage after most) past begun order = order
+begun_grows (Gone conn now) past begun order = order
+begun_grows (Tick now) past begun order = order
+begun_grows Census past begun order = order
+
+-- no segment needs no Join
+none_begun : (joinings : List Joining) → BeginInOrder the_epoch the_site joinings []
+none_begun [] = refl
+none_begun (joining ∷ joinings) = inl (none_begun joinings)
 
 abbrev pub SoundIn : List ChannelEvent → Segment → Type 0
-SoundIn past segment = IsSoundSegment the_epoch the_site past segment
+SoundIn past segment = IsSoundSegment the_site past segment
 
 pub segment_grows : (event : ChannelEvent) (past : List ChannelEvent) (segment : Segment) → SoundIn past segment → SoundIn (event ∷ past) segment
 segment_grows event past segment sound =
@@ -68,7 +73,6 @@ segment_grows event past segment sound =
     record {
       within = omega (arith, sound.within, longer);
       run = sound.run ∙ ap (map got_of) (sym (ap (λ l. run_between l segment.start upto) g.1 ∙ run_stays (log the_site past) g.0 segment.start upto order sound.within));
-      begun = joins_grow event past segment sound.begun;
     }
 
 abbrev pub Fine : List ChannelEvent → List Segment → Type 0
@@ -77,6 +81,7 @@ Fine past segments = IsSound the_epoch the_site past segments
 pub grows : (event : ChannelEvent) (past : List ChannelEvent) (segments : List Segment) → Fine past segments → Fine (event ∷ past) segments
 grows event past segments fine = record {
   each = each_weaker (SoundIn past) (SoundIn (event ∷ past)) (segment_grows event past) segments fine.each;
+  begun = begun_grows event past (map beginning segments) fine.begun;
   recovered_first = fine.recovered_first;
   in_order = fine.in_order;
 }
@@ -99,15 +104,13 @@ joined_low past (Some (Ours serial)) =
 joining_of : List ChannelEvent → Option Given → Joining
 joining_of past asked = record { before = past; asked = asked }
 
-pub new_segment : (past : List ChannelEvent) (asked : Option Given) (cause : Cause) → MayBegin the_epoch the_site (record { before = past; asked = asked }) cause
-    → SoundIn (Join asked ∷ past) (segment_from (joined_place the_epoch the_site past asked) cause)
-new_segment past asked cause may =
+pub new_segment : (past : List ChannelEvent) (asked : Option Given) (cause : Cause) → SoundIn (Join asked ∷ past) (segment_from (joined_place the_epoch the_site past asked) cause)
+new_segment past asked cause =
     let place : ℕ = joined_place the_epoch the_site past asked in
     let none : place + 0 - place ≡ 0 = omega arith in
     record {
       within = omega (arith, joined_low past asked, length-append (log the_site past) []);
       run = sym (ap (λ n. map got_of (take n (drop place (log the_site (Join asked ∷ past))))) none);
-      begun = inl (refl, may);
     }
 
 none_and : (segments : List Segment) (segment : Segment) → NoneRecovered segments → (IsRecovered segment.cause → ⊥) → NoneRecovered (segments ++ segment ∷ [])
@@ -135,7 +138,8 @@ begins past asked cause segments may not at fine =
     let old = grows (Join asked) past segments fine in
     let place : ℕ = joined_place the_epoch the_site past asked in
     record {
-      each = each_and (SoundIn (Join asked ∷ past)) segments (segment_from place cause) old.each (new_segment past asked cause may);
+      each = each_and (SoundIn (Join asked ∷ past)) segments (segment_from place cause) old.each (new_segment past asked cause);
+      begun = inr (map beginning segments, (place, cause), map-append beginning segments (segment_from place cause ∷ []), (refl, may), fine.begun);
       recovered_first = first_and segments (segment_from place cause) old.recovered_first not;
       in_order = order_and segments (segment_from place cause) fine.in_order (ends_low past place segments at fine.each);
     }
@@ -144,7 +148,8 @@ pub joined : (past : List ChannelEvent) (asked : Option Given) (resumed : Bool) 
     → Fine past segments → Fine (Join asked ∷ past) (segments_after asked resumed (joined_place the_epoch the_site past asked) segments)
 joined past None resumed segments is fine = begins past None Opened segments refl (λ recovered. recovered) refl fine
 joined past (Some asked) true [] is fine = record {
-  each = (new_segment past (Some asked) (Recovered asked) (refl, is), tt);
+  each = (new_segment past (Some asked) (Recovered asked), tt);
+  begun = inr ([], (joined_place the_epoch the_site past (Some asked), Recovered asked), refl, (refl, (refl, is)), fine.begun);
   recovered_first = tt;
   in_order = tt;
 }
@@ -181,7 +186,6 @@ segment_caught past segment sound =
           ∙ sym (map-append got_of (run_between (log the_site past) segment.start upto) (drop upto (log the_site past)))
           ∙ ap (map got_of) (sym (run_rest (log the_site past) segment.start upto order sound.within))
           ∙ ap (λ n. map got_of (run_between (log the_site past) segment.start n)) (sym end);
-      begun = sound.begun;
     }
 
 none_caught : (entries : List Entry) (segments : List Segment) → NoneRecovered segments → NoneRecovered (caught_up entries segments)
@@ -205,9 +209,15 @@ caught_first entries [] first = tt
 caught_first entries (segment ∷ []) first = tt
 caught_first entries (segment ∷ next ∷ segments) first = none_caught entries (next ∷ segments) first
 
+begun_caught : (entries : List Entry) (segments : List Segment) → map beginning (caught_up entries segments) ≡ map beginning segments
+begun_caught entries [] = refl
+begun_caught entries (segment ∷ []) = refl
+begun_caught entries (segment ∷ next ∷ segments) = ap (λ (begun : List (ℕ × Cause)). beginning segment ∷ begun) (begun_caught entries (next ∷ segments))
+
 caught : (past : List ChannelEvent) (segments : List Segment) → Fine past segments → Fine past (caught_up (log the_site past) segments)
 caught past segments fine = record {
   each = each_caught past segments fine.each;
+  begun = subst (Begun past) (sym (begun_caught (log the_site past) segments)) fine.begun;
   recovered_first = caught_first (log the_site past) segments fine.recovered_first;
   in_order = order_caught (log the_site past) segments fine.in_order;
 }
@@ -294,7 +304,7 @@ kept_by change same world None fine own = fine
 kept_by change same world (Some client) fine own = subst (λ (segments : List Segment). Fine world.past segments) (sym (same client)) own
 
 one_line : (world : World) (line : Line) → FineWorld world → FineWorld (after_line world line)
-one_line world (lines.Client name) fine = record { each = tt; recovered_first = tt; in_order = tt }
+one_line world (lines.Client name) fine = record { each = tt; begun = none_begun (joinings world.past); recovered_first = tt; in_order = tt }
 one_line world (lines.Open name) fine =
     kept_by (λ (client : Client). record client { conn = opened client.conn }) (λ client. refl) world world.client fine fine
 one_line world (lines.Cut name) fine =

@@ -1,5 +1,5 @@
 -- What a record may be trusted for, in terms of the channel's one log.
-use Rattle.std.specs.Prelude.{◌≡◌, ℕ, ◌≤◌, true, false, List, [], ◌∷◌, map, length, take, slice_get, Option, Some, None, ◌⊎◌, ⊤}
+use Rattle.std.specs.Prelude.{◌≡◌, ℕ, ◌≤◌, true, false, List, [], ◌∷◌, ◌++◌, map, length, take, slice_get, Option, Some, None, ◌⊎◌, ⊤}
 use Rattle.std.specs.List.{AllByRecursion}
 use Rattle.rl_events.specs.declared.channel.ChannelEvent.{ChannelEvent}
 use Rattle.rl_events.specs.declared.channel.ChannelEvent.TheVariants.{Join}
@@ -15,11 +15,6 @@ use Rattle.rl_model.specs.Verdict.{log, head, run_between}
 use Rattle.rl_model.specs.Reply.{is_resumed, joined_place}
 use Rattle.rl_model.specs.Records.{the_epoch, the_site, got_of, segment_end}
 use Rattle.rl_model.specs.World.{World, final}
-
--- some element has P
-abbrev pub SomeOf : {X : Type 0} → (X → Type 0) → List X → Type 0
-SomeOf P [] = ⊥
-SomeOf P (x ∷ xs) = P x ⊎ SomeOf P xs
 
 -- JOINS
 
@@ -51,11 +46,26 @@ MayBegin epoch site joining (Jump held place) = ⊥
 
 -- SEGMENTS
 
--- a segment is one contiguous run of the log, each entry once, and begins at the place that a Join was told
-pub record IsSoundSegment (epoch : ℕ) (site : List ℕ) (past : List ChannelEvent) (segment : Segment) : Type 0 where
+-- a segment is one contiguous run of the log, each entry once
+pub record IsSoundSegment (site : List ℕ) (past : List ChannelEvent) (segment : Segment) : Type 0 where
   pub within : segment_end segment ≤ head site past
   pub run : segment.got ≡ map got_of (run_between (log site past) segment.start (segment_end segment))
-  pub begun : SomeOf (λ joining. (told epoch site joining ≡ segment.start) × MayBegin epoch site joining segment.cause) (joinings past)
+
+-- where a segment begins, and why
+abbrev pub beginning : Segment → ℕ × Cause
+beginning segment = (segment.start, segment.cause)
+
+-- a segment begins at the answer to this Join: at the place that it was told, with a cause that it gives
+abbrev pub BeginsAt : ℕ → List ℕ → Joining → ℕ × Cause → Type 0
+BeginsAt epoch site joining begun = (told epoch site joining ≡ begun.0) × MayBegin epoch site joining begun.1
+
+-- segments begin at the answers to these Joins, each to one of its own, and in their order. The Joins are given the latest
+-- first
+abbrev pub BeginInOrder : ℕ → List ℕ → List Joining → List (ℕ × Cause) → Type 0
+BeginInOrder epoch site [] begun = begun ≡ []
+BeginInOrder epoch site (joining ∷ joinings) begun =
+    BeginInOrder epoch site joinings begun
+    ⊎ ((earlier : List (ℕ × Cause)) × (last : ℕ × Cause) × (begun ≡ earlier ++ last ∷ []) × BeginsAt epoch site joining last × BeginInOrder epoch site joinings earlier)
 
 abbrev pub IsRecovered : Cause → Type 0
 IsRecovered (Recovered asked) = Unit {0}
@@ -76,7 +86,8 @@ AreInOrder (segment ∷ []) = ⊤
 AreInOrder (segment ∷ next ∷ segments) = (segment_end segment ≤ next.start) × AreInOrder (next ∷ segments)
 
 pub record IsSound (epoch : ℕ) (site : List ℕ) (past : List ChannelEvent) (segments : List Segment) : Type 0 where
-  pub each : AllByRecursion (IsSoundSegment epoch site past) segments
+  pub each : AllByRecursion (IsSoundSegment site past) segments
+  pub begun : BeginInOrder epoch site (joinings past) (map beginning segments)
   pub recovered_first : OnlyFirstRecovered segments
   pub in_order : AreInOrder segments
 

@@ -12,9 +12,9 @@ pub fn once_by_id()
     ensures { (site : List ℕ) (past : List ChannelEvent) → OnceById site past }
 {}
 
-/// Each segment of a record is one contiguous run of the channel's log, begins where the answer to an ATTACH
-/// told, with the cause that the ATTACH gives, and at or past the end of the one before; only the first is
-/// recovered. This holds for every list of lines.
+/// Each segment of a record is one contiguous run of the channel's log, begins where the answer to an ATTACH of its
+/// own told, a later one at a later ATTACH, with the cause that the ATTACH gives, and at or past the end of the one
+/// before; only the first is recovered. This holds for every list of lines.
 #[tactic(auto, using(crate::proofs::Sound::sound_records))]
 pub fn sound_records()
     ensures { (script : List Line) → HasSoundRecords (final script) }

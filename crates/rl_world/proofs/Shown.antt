@@ -34,7 +34,7 @@ kept_shown (Some name) (event ∷ past) = refl
 pub sound_ends : (past : List ChannelEvent) (client : Option Client) (top : ℕ) → top ≡ head the_site past → HasSoundRecord past client → EndsBy top client
 sound_ends past None top is sound = tt
 sound_ends past (Some client) top is sound =
-    each_weaker (IsSoundSegment the_epoch the_site past) (λ (segment : Segment). segment_end segment ≤ top) (λ (segment : Segment) one. omega (arith, one.within, is)) client.segments sound.each
+    each_weaker (IsSoundSegment the_site past) (λ (segment : Segment). segment_end segment ≤ top) (λ (segment : Segment) one. omega (arith, one.within, is)) client.segments sound.each
 
 -- the log of a machine, at the site of the world
 keeps_at : (state : ChannelState) (log : ChanLogView) → state.setup.site ≡ the_site → ((past : List ChannelEvent) → StandsFor state past → Keeps log (parts_of state.setup.site past))
