@@ -6,9 +6,13 @@ use Rattle.rl_presmap.specs.declared.held.Held.{Held}
 use Rattle.rl_presmap.specs.declared.events.PresenceEvent.{PresenceEvent}
 use Rattle.rl_presmap.specs.declared.events.PresenceEvent.TheVariants.{Left}
 use Rattle.rl_presmap.specs.Held.{is_plain, is_residual, is_member}
-use Rattle.rl_presmap.specs.Steps.{with_item, with_items, event_of, events_of, all_plain, end_events, leaves}
+use Rattle.rl_presmap.specs.Steps.{with_each, with_item, with_items, event_of, events_of, all_plain, end_events, leaves}
 
 -- TAKING UP
+
+pub each_more : (syncing : Bool) (rest more : List PresenceItem) (one : PresenceItem) (held new all : List Held) → rest ≡ one ∷ more → new ≡ with_item syncing one held → with_each syncing rest held ≡ all → with_each syncing more new ≡ all
+each_more syncing rest more one held new all is step so_far =
+    ap (with_each syncing more) step ∙ sym (ap (λ (xs : List PresenceItem). with_each syncing xs held) is) ∙ so_far
 
 pub taken_more : (rest more : List PresenceItem) (one : PresenceItem) (held new all : List Held) → rest ≡ one ∷ more → new ≡ with_item true one held → with_items rest held ≡ all → with_items more new ≡ all
 taken_more rest more one held new all is step so_far =

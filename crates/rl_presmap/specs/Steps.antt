@@ -79,11 +79,19 @@ event_of item held = if is_absent item.action then None else told item (slot (ke
 abbrev pub applied : PresenceItem → PresenceMap → PresenceMap
 applied item known = record known { held = with_item (is_open known.sync) item known.held }
 
--- SEVERAL ITEMS, DURING A SYNC
+-- SEVERAL ITEMS
 
+-- what is held after items, one after another
+abbrev pub with_each : Bool → List PresenceItem → List Held → List Held
+with_each syncing [] held = held
+with_each syncing (item ∷ items) held = with_each syncing items (with_item syncing item held)
+
+abbrev pub all_applied : List PresenceItem → PresenceMap → PresenceMap
+all_applied items known = record known { held = with_each (is_open known.sync) items known.held }
+
+-- during a sync
 abbrev pub with_items : List PresenceItem → List Held → List Held
-with_items [] held = held
-with_items (item ∷ items) held = with_items items (with_item true item held)
+with_items items held = with_each true items held
 
 abbrev pub events_of : List PresenceItem → List Held → List PresenceEvent
 events_of [] held = []

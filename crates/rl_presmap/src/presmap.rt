@@ -2,7 +2,7 @@ ghost use Rattle.std.specs.Prelude.{◌≡◌, false, ◌++◌, [], filter, Some
 ghost use Rattle.std.specs.Option.{option_copied};
 ghost use Rattle.rl_presmap.specs.declared.held.SyncState.TheVariants.{Closed, Numbered};
 ghost use Rattle.rl_presmap.specs.Held.{is_member, is_open};
-ghost use Rattle.rl_presmap.specs.Steps.{applied, event_of, opened, ended, end_events, leaves, begun, paged, events_of, page_taken, page_events, members};
+ghost use Rattle.rl_presmap.specs.Steps.{all_applied, applied, event_of, opened, ended, end_events, leaves, begun, paged, events_of, page_taken, page_events, members};
 ghost use Rattle.rl_presmap.specs.Soundness.{IsSoundMap};
 
 use crate::copies::{copy_all, members_of, room_for, sum};
@@ -10,7 +10,7 @@ use crate::ends::{all_leave, end};
 use crate::events::PresenceEvent;
 use crate::held::{Held, SyncState};
 use crate::ready::{Ready, all_ready};
-use crate::syncs::{begin, goes_on, open, take_all};
+use crate::syncs::{take_each, begin, goes_on, open, take_all};
 use crate::taking::take_up;
 use rl_ids::{Copied, List, NoMemory};
 use rl_types::{Cursor, PresenceItem};
@@ -80,6 +80,18 @@ impl PresMap {
         let ready = Ready::of(alloc, item)?;
         self.held.reserve(1)?;
         Ok(take_up(&mut self.held, self.sync.is_open(), ready))
+    }
+
+    /// Takes the items of one PRESENCE message up, in order, each as by [`PresMap::apply`]: all of them, or at
+    /// `NoMemory` none. What they tell is not answered.
+    pub fn apply_all(&mut self, alloc: Global, items: &[PresenceItem]) -> Result<(), NoMemory>
+        ensures ok { OnOk result (self.new ≡ all_applied items.now self.old) }
+        ensures err { OnErr result (self.new ≡ self.old) }
+    {
+        let ready = all_ready(alloc, items)?;
+        self.held.reserve(ready.len())?;
+        take_each(&mut self.held, self.sync.is_open(), ready);
+        Ok(())
     }
 
     /// Opens a sync, whether or not one is open: at an ATTACHED with HAS_PRESENCE (RTP1, RTP19). ABSENT ones are

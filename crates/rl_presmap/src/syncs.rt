@@ -4,7 +4,7 @@ ghost use Rattle.std.specs.Option.{option_copied};
 ghost use Rattle.std.specs.Vec.{vec_capacity};
 ghost use Rattle.rl_presmap.specs.declared.held.Standing.TheVariants as standing;
 ghost use Rattle.rl_presmap.specs.Held.{AreRising};
-ghost use Rattle.rl_presmap.specs.Steps.{with_items, events_of, held_as, all_residual, goes_on, ends_sync};
+ghost use Rattle.rl_presmap.specs.Steps.{with_each, with_item, with_items, events_of, held_as, all_residual, goes_on, ends_sync};
 
 use crate::events::PresenceEvent;
 use crate::held::{Held, Standing, SyncState};
@@ -54,6 +54,28 @@ pub fn begin(held: &mut Vec<Held>, goes_on: bool)
 {
     if !goes_on {
         open(held);
+    }
+}
+
+// Takes an item up, whatever it tells. There is room for one more.
+fn take_one(held: &mut Vec<Held>, syncing: bool, ready: Ready)
+    requires rising { AreRising held.old.items }
+    requires room { vec_len held.old < vec_capacity held.old }
+    ensures items { held.new.items ≡ with_item syncing ready held.old.items }
+    ensures len { vec_len held.new ≤ vec_len held.old + 1 }
+    ensures capacity { vec_capacity held.old ≤ vec_capacity held.new }
+{
+    take_up(held, syncing, ready);
+}
+
+// Takes items up, in order. There is room for all.
+pub fn take_each(held: &mut Vec<Held>, syncing: bool, ready: List<Ready>)
+    requires rising { AreRising held.old.items }
+    requires room { vec_len held.old + length ready ≤ vec_capacity held.old }
+    ensures { held.new.items ≡ with_each syncing ready held.old.items }
+{
+    for one in ready.into_vec() {
+        take_one(held, syncing, one);
     }
 }
 

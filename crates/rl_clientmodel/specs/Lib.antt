@@ -1,0 +1,13 @@
+pub mod Names
+pub mod Runs
+pub mod Channels
+pub mod Answers
+pub mod Entries
+pub mod States
+pub mod Commands
+pub mod Hearing
+pub mod Times
+pub mod Keys
+pub mod Inputs
+pub mod Shown
+pub mod Examples
