@@ -5,6 +5,7 @@ use Rattle.rl_ids.specs.declared.objects.ObjectId.{ObjectId}
 use Rattle.rl_types.specs.declared.objects.ObjectState.{ObjectState}
 use Rattle.rl_objmodel.specs.Held.{Held, shown}
 use Rattle.rl_objmodel.specs.Steps.{states}
+use Rattle.rl_objrules.specs.Ids as ids
 use Rattle.rl_pool.specs.Pools as pools
 use Rattle.std.proofs.lemmas.List.{append-nil, drop_more, length-map, length-take, take-map, take_more}
 use Rattle.std.proofs.Math.Seq.{drop-length}
@@ -15,21 +16,21 @@ use Rattle.rl_channel.specs.Pages.{page_from}
 use Rattle.std.proofs.lemmas.Bool.Decides.{nat_tests}
 use Rattle.rl_model.specs.Objects.{cut_from, is_last_states, is_past_id, page_states, states_past}
 
-past_alike : (after : Option ObjectId) (held : Held) → pools.is_past_id after held ≡ is_past_id after (shown held)
+past_alike : (after : Option ObjectId) (held : Held) → ids.is_past_id after held ≡ is_past_id after (shown held)
 past_alike None held = refl
 past_alike (Some id) held = refl
 
-past_same : (after : Option ObjectId) (pool : List Held) → map shown (pools.past_id after pool) ≡ states_past after (states pool)
+past_same : (after : Option ObjectId) (pool : List Held) → map shown (ids.past_id after pool) ≡ states_past after (states pool)
 past_same after [] = refl
 past_same after (held ∷ pool) =
-    ap (λ (b : Bool). map shown (cond b (held ∷ pools.past_id after pool) (pools.past_id after pool))) (past_alike after held) ∙ by (is_past_id after (shown held)) (past_same after pool)
+    ap (λ (b : Bool). map shown (cond b (held ∷ ids.past_id after pool) (ids.past_id after pool))) (past_alike after held) ∙ by (is_past_id after (shown held)) (past_same after pool)
   where
-    by : (b : Bool) → map shown (pools.past_id after pool) ≡ states_past after (states pool) → map shown (cond b (held ∷ pools.past_id after pool) (pools.past_id after pool)) ≡ cond b (shown held ∷ states_past after (states pool)) (states_past after (states pool))
+    by : (b : Bool) → map shown (ids.past_id after pool) ≡ states_past after (states pool) → map shown (cond b (held ∷ ids.past_id after pool) (ids.past_id after pool)) ≡ cond b (shown held ∷ states_past after (states pool)) (states_past after (states pool))
     by true h = ap (λ (more : List ObjectState). shown held ∷ more) h
     by false h = h
 
 got_is : (after : Option ObjectId) (most : ℕ) (pool : List Held) → pools.page_states after most pool ≡ take most (states_past after (states pool))
-got_is after most pool = sym (take-map shown most (pools.past_id after pool)) ∙ ap (take most) (past_same after pool)
+got_is after most pool = sym (take-map shown most (ids.past_id after pool)) ∙ ap (take most) (past_same after pool)
 
 pub page_is : (after : Option ObjectId) (most count : ℕ) (pool : List Held) (got : List ObjectState) → got ≡ pools.page_states after most pool → take count got ≡ cut_from 0 got → take count got ≡ page_states after most (states pool)
 page_is after most count pool got is cut = cut ∙ ap (cut_from 0) (is ∙ got_is after most pool)
@@ -42,7 +43,7 @@ last_at : (after : Option ObjectId) (most count : ℕ) (pool : List Held) (got :
     → (pools.is_last_page after most pool && (count == length got)) ≡ is_last_states after most (states pool)
 last_at after most count pool got is cut within =
     let past = states_past after (states pool) in
-    let many : length (pools.past_id after pool) ≡ length past = sym (length-map (pools.past_id after pool) shown) ∙ ap length (past_same after pool) in
+    let many : length (ids.past_id after pool) ≡ length past = sym (length-map (ids.past_id after pool) shown) ∙ ap length (past_same after pool) in
     let short : length got ≡ min most (length past) = ap length (is ∙ got_is after most pool) ∙ length-take most past in
     let page : length (page_states after most (states pool)) ≡ count = ap length (sym (page_is after most count pool got is cut)) ∙ length-take count got ∙ least count (length got) within in
     ap (λ (n : ℕ). nat_le n most && (count == length got)) many

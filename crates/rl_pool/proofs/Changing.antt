@@ -18,16 +18,16 @@ use Rattle.rl_objmodel.specs.Held.{Held, bare_root, shown}
 use Rattle.rl_objmodel.specs.Operations.{id_in}
 use Rattle.rl_objmodel.specs.Steps.{held_after, held_at, held_by, held_if, held_with, new_held, outcome, pool_if, pool_outcome_by, pool_with, target, with_held}
 use Rattle.rl_object.specs.Back.{Stood, CanGoBack, IsBack, StoodIsBack, restored}
-use Rattle.rl_pool.specs.declared.load.Load.{Load}
-use Rattle.rl_pool.specs.declared.load.Shelf.{Shelf}
+use Rattle.rl_objrules.specs.declared.load.Load.{Load}
+use Rattle.rl_objrules.specs.declared.load.Shelf.{Shelf}
 use Rattle.rl_pool.specs.declared.changes.Change.{Change}
 use Rattle.rl_pool.specs.declared.changes.Effect.{Effect}
 use Rattle.rl_pool.specs.Changes.{added_effect, changed_at, held_in, refused_effect, op_entered, put_back_by, IsAppliedAt, IsBackBy, IsChanged, IsTaken, IsUndoable}
-use Rattle.rl_pool.specs.Ids.{IsAscending, IsIdHeldAt, IsIdMissedAt}
-use Rattle.rl_pool.specs.Loads.{load_in, load_of, no_load, HasRoot, IsExchanged, IsSound, IsUnder}
-use Rattle.rl_pool.proofs.Limits.{insert_load, set_load, under_all}
-use Rattle.rl_pool.proofs.Places.{inserted_with, replaced_with, is_ascending_with, found_with, held_there, missed_there, same_place, tied_held}
-use Rattle.rl_pool.proofs.Ids.{before_itself}
+use Rattle.rl_objrules.specs.Ids.{IsAscending, IsIdHeldAt, IsIdMissedAt}
+use Rattle.rl_objrules.specs.Loads.{load_in, load_of, no_load, HasRoot, IsExchanged, IsSound, IsUnder}
+use Rattle.rl_objrules.proofs.Limits.{insert_load, set_load, under_all}
+use Rattle.rl_objrules.proofs.Places.{inserted_with, replaced_with, is_ascending_with, found_with, held_there, missed_there, same_place, tied_held}
+use Rattle.rl_objrules.proofs.Ids.{before_itself}
 use Rattle.rl_pool.proofs.Roots.{root_if}
 
 -- LISTS

@@ -5,9 +5,9 @@ use Rattle.rl_ids.specs.declared.objects.ObjectId.{ObjectId}
 use Rattle.rl_ids.specs.Objects.{id_cmp}
 use Rattle.rl_objmodel.specs.Held.{Held}
 use Rattle.rl_objmodel.specs.Steps.{collected, is_gone}
-use Rattle.rl_pool.specs.Ids.{AreAscending, IsAscending}
+use Rattle.rl_objrules.specs.Ids.{AreAscending, IsAscending}
 use Rattle.rl_pool.specs.Pools.{collected_at, collected_one}
-use Rattle.rl_pool.proofs.Places.{AllAfter}
+use Rattle.rl_objrules.proofs.Places.{AllAfter}
 
 cons_one : (one : Held) (xs ys : List Held) → xs ≡ ys → one ∷ xs ≡ one ∷ ys
 cons_one one xs ys h = cc

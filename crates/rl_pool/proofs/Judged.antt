@@ -21,34 +21,22 @@ use Rattle.rl_ids.specs.Objects.{is_below, same_kind, kind_of}
 use Rattle.rl_types.specs.declared.objects.Op.{Op}
 use Rattle.rl_types.specs.declared.objects.Op.TheVariants.{MapCreate, MapSet, MapRemove, CounterCreate, CounterInc, Delete}
 use Rattle.rl_types.specs.declared.objects.ObjectOp.{ObjectOp}
-use Rattle.rl_types.specs.declared.objects.ObjectState.{ObjectState}
 use Rattle.rl_types.specs.Weight.{cell_weight, held_weight, held_in, state_weight}
 use Rattle.rl_objmodel.specs.Held.{Written, Write, Cells, HeldBody, Sum, Keys, Held, value_in, shown, shown_body, shown_cell}
 use Rattle.rl_objmodel.specs.Operations.{id_in, values_of, is_root}
-use Rattle.rl_objmodel.specs.Rules.{Setting, cells_held, cells_in, sum_held, create_rule, change_rule, delete_rule, fails_if, is_heavy, is_stale, is_wide, length_rule, missing_rule, op_rule, or_next, pool_rule, range_rule, serial_at, sum_in, target_rule, value_rule, values_rule}
+use Rattle.rl_objmodel.specs.Rules.{Setting, cells_held, cells_in, sum_held, create_rule, change_rule, delete_rule, fails_if, is_heavy, is_stale, is_wide, length_rule, missing_rule, or_next, pool_rule, range_rule, serial_at, sum_in, target_rule, value_rule, values_rule}
 use Rattle.rl_objmodel.specs.Steps.{held_at, pool_op_rule, pool_ops_rule, state_at, states}
 use Rattle.rl_livemap.specs.Stamps.{unnumbered, unnumbered_cell}
-use Rattle.rl_pool.specs.Ids.{AreAscending, IsAscending}
+use Rattle.rl_objrules.specs.Ids.{AreAscending, IsAscending}
 use Rattle.rl_object.specs.Unnumbered.{unnumbered_body}
 use Rattle.rl_pool.specs.Changes.{op_entered}
 use Rattle.rl_pool.specs.Checks.{AreBelow, HoldsBelow, cells_of, numbered_rules, unnumbered_pool}
-use Rattle.rl_pool.specs.declared.load.Shelf.{Shelf}
-use Rattle.rl_pool.specs.Loads.{load_in, HasRoot, IsSound}
+use Rattle.rl_objrules.specs.declared.load.Shelf.{Shelf}
+use Rattle.rl_objrules.specs.Loads.{load_in, HasRoot, IsSound}
 use Rattle.rl_pool.proofs.Roots.{root_copied}
-use Rattle.rl_pool.specs.Rules.{before_rules, shown_at}
-use Rattle.rl_pool.proofs.Places.{AllAfter}
+use Rattle.rl_objrules.specs.Rules.{shown_at}
+use Rattle.rl_objrules.proofs.Places.{AllAfter}
 use Rattle.rl_pool.proofs.Alike.{SitesUnder, CellsUnder, PoolUnder, CellsLike, BodyLike, HeldLike, PoolLike, OptLike, found_like, entered_like, entered_under}
-
--- THE RULES IN ORDER
-
-joined_at : (l t v r p : Option ℕ) → or_next (or_next l (or_next t (or_next v r))) p ≡ or_next l (or_next t (or_next v (or_next r p)))
-joined_at (Some code) t v r p = refl
-joined_at None (Some code) v r p = refl
-joined_at None None (Some code) r p = refl
-joined_at None None None r p = refl
-
-pub joined : (now : ℕ) (found : ObjectId → Option ObjectState) (target : Option ObjectState) (after : List ObjectState) (op : Op) → or_next (before_rules now found op) (pool_rule target after) ≡ op_rule now found target after op
-joined now found target after op = joined_at (length_rule op) (target_rule now found op) (values_rule found (values_of op)) (range_rule found op) (pool_rule target after)
 
 -- ONE OBJECT THAT IS FOUND OR NOT
 

@@ -1,13 +1,9 @@
-pub mod Ids
-pub mod Places
-pub mod Calls
+pub mod Living
 pub mod Reading
 pub mod Rooted
 pub mod Roots
 pub mod Dropping
 pub mod Showing
-pub mod Lists
-pub mod Limits
 pub mod Lighter
 pub mod Changing
 pub mod Undoing

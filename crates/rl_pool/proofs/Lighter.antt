@@ -7,11 +7,11 @@ use Rattle.rl_objmodel.specs.Held.{Write, Cells, HeldBody, Sum, Keys, Held, show
 use Rattle.rl_objmodel.specs.Rules.{cells_held}
 use Rattle.rl_types.specs.Weight.{held_in}
 use Rattle.rl_objmodel.specs.Steps.{collected, collected_body, collected_cells, is_gone}
-use Rattle.rl_pool.specs.declared.load.Load.{Load}
-use Rattle.rl_pool.specs.declared.load.Shelf.{Shelf}
-use Rattle.rl_pool.specs.Ids.{IsAscending}
-use Rattle.rl_pool.specs.Loads.{held_cells, held_weight, load_in, saturated_load, HasRoot, IsInRange, IsSound, IsUnder}
-use Rattle.rl_pool.proofs.Limits.{load_fits}
+use Rattle.rl_objrules.specs.declared.load.Load.{Load}
+use Rattle.rl_objrules.specs.declared.load.Shelf.{Shelf}
+use Rattle.rl_objrules.specs.Ids.{IsAscending}
+use Rattle.rl_objrules.specs.Loads.{held_cells, held_weight, load_in, saturated_load, HasRoot, IsInRange, IsSound, IsUnder}
+use Rattle.rl_objrules.proofs.Limits.{load_fits}
 use Rattle.rl_pool.proofs.Roots.{root_collected}
 use Rattle.rl_pool.specs.Pools.{collected_one}
 use Rattle.rl_pool.proofs.Dropping.{gone_first, stays_first}

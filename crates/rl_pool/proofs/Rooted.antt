@@ -5,9 +5,9 @@ use Rattle.std.proofs.lemmas.Result.{on_ok_weaker}
 use Rattle.rl_ids.specs.declared.objects.ObjectId.TheVariants.{Root}
 use Rattle.rl_objmodel.specs.Held.{Held, bare_root}
 use Rattle.rl_objmodel.specs.Steps.{held_at, with_held, with_root}
-use Rattle.rl_pool.specs.Ids.{IsAscending, IsIdHeldAt, IsIdMissedAt}
-use Rattle.rl_pool.proofs.Places.{inserted_with, is_ascending_with, held_there, missed_there}
-use Rattle.rl_pool.proofs.Calls.{held, missed}
+use Rattle.rl_objrules.specs.Ids.{IsAscending, IsIdHeldAt, IsIdMissedAt}
+use Rattle.rl_objrules.proofs.Places.{inserted_with, is_ascending_with, held_there, missed_there}
+use Rattle.rl_objrules.proofs.Calls.{held, missed}
 
 pub root_there : (pool seen : List Held) (at : ℕ) → seen ≡ pool → (IsAscending seen → IsIdHeldAt Root seen at) → IsAscending pool → pool ≡ with_root pool
 root_there pool seen at same place ascending =

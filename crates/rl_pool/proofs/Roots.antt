@@ -19,13 +19,13 @@ use Rattle.rl_objmodel.specs.Operations.{is_root}
 use Rattle.rl_objmodel.specs.Steps.{collected, held_at, is_gone, is_held_as, pool_if, with_held, with_root}
 use Rattle.rl_object.specs.Unnumbered.{unnumbered_held}
 use Rattle.rl_pool.specs.Checks.{unnumbered_pool}
-use Rattle.rl_pool.specs.declared.load.Shelf.{Shelf}
-use Rattle.rl_pool.specs.Ids.{IsAscending}
-use Rattle.rl_pool.specs.Loads.{load_in, HasRoot, IsSound}
+use Rattle.rl_objrules.specs.declared.load.Shelf.{Shelf}
+use Rattle.rl_objrules.specs.Ids.{IsAscending}
+use Rattle.rl_objrules.specs.Loads.{load_in, HasRoot, IsSound}
 use Rattle.rl_pool.specs.Pools.{collected_one}
 use Rattle.rl_pool.proofs.Dropping.{gone_first, stays_first}
-use Rattle.rl_pool.proofs.Ids.{before_itself, tied_right}
-use Rattle.rl_pool.proofs.Places.{found_with}
+use Rattle.rl_objrules.proofs.Ids.{before_itself, tied_right}
+use Rattle.rl_objrules.proofs.Places.{found_with}
 
 -- an object in front: it is the root, or the root is behind it
 

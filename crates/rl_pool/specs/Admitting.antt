@@ -1,5 +1,5 @@
 -- Operations with their serials that are judged one after another, each against the objects as the earlier ones left them.
-use Rattle.std.specs.Prelude.{◌≡◌, ℕ, suc, List, [], ◌∷◌, Option, Some, None}
+use Rattle.std.specs.Prelude.{◌≡◌, ℕ, List, [], ◌∷◌, Option, Some, None}
 use Rattle.rl_ids.specs.declared.serials.OpSerial.{OpSerial}
 use Rattle.rl_types.specs.declared.objects.Op.{Op}
 use Rattle.rl_types.specs.declared.objects.ObjectOp.{ObjectOp}
@@ -7,11 +7,11 @@ use Rattle.rl_objmodel.specs.Held.{Held}
 use Rattle.rl_objmodel.specs.Operations.{id_in}
 use Rattle.rl_objmodel.specs.Lasting.{numbered_all}
 use Rattle.rl_objmodel.specs.Rules.{Setting, or_next, pool_rule}
-use Rattle.rl_objmodel.specs.Steps.{numbered, pool_after, pool_after_op, pool_op_rule, pool_ops_rule, state_at, states}
-use Rattle.rl_pool.specs.declared.load.Shelf.{Shelf}
+use Rattle.rl_objmodel.specs.Steps.{pool_after, pool_after_op, pool_op_rule, pool_ops_rule, state_at, states}
+use Rattle.rl_objrules.specs.declared.load.Shelf.{Shelf}
 use Rattle.rl_pool.specs.declared.changes.Change.{Change}
 use Rattle.rl_pool.specs.Changes.{IsBackBy, op_entered}
-use Rattle.rl_pool.specs.Loads.{IsSound}
+use Rattle.rl_objrules.specs.Loads.{IsSound}
 
 -- the code of the rule that one operation breaks
 abbrev pub admitted_op : ℕ → ObjectOp → List Held → Option ℕ

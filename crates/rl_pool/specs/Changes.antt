@@ -1,7 +1,5 @@
 -- What an operation with a serial makes of the objects, and how it is put back.
 use Rattle.std.specs.Prelude.{◌≡◌, ℕ, ◌<◌, Bool, false, List, length, ⊤, remove, slice_set, slice_index_or, Option, Some, None}
-use Rattle.std.specs.Option.{option_map_or}
-use Rattle.rl_ids.specs.declared.objects.ObjectId.{ObjectId}
 use Rattle.rl_ids.specs.declared.serials.OpSerial.{OpSerial}
 use Rattle.rl_types.specs.declared.objects.Op.{Op}
 use Rattle.rl_types.specs.declared.objects.ObjectOp.{ObjectOp}
@@ -9,13 +7,12 @@ use Rattle.rl_objmodel.specs.declared.plain.Applied.{Applied}
 use Rattle.rl_objmodel.specs.declared.plain.Applied.TheVariants as outcomes
 use Rattle.rl_objmodel.specs.Held.{Held, bare_root}
 use Rattle.rl_objmodel.specs.Operations.{id_in}
-use Rattle.rl_objmodel.specs.Rules.{is_heavy}
-use Rattle.rl_objmodel.specs.Steps.{held_after, outcome, pool_after_op, pool_if, pool_outcome, pool_outcome_by, pool_with, state_at}
+use Rattle.rl_objmodel.specs.Steps.{held_after, outcome, pool_after_op, pool_if, pool_outcome, pool_outcome_by, pool_with}
 use Rattle.rl_object.specs.Back.{Stood, CanGoBack, restored}
-use Rattle.rl_pool.specs.declared.load.Shelf.{Shelf}
+use Rattle.rl_objrules.specs.declared.load.Shelf.{Shelf}
 use Rattle.rl_pool.specs.declared.changes.Change.{Change}
 use Rattle.rl_pool.specs.declared.changes.Effect.{Effect}
-use Rattle.rl_pool.specs.Loads.{IsSound}
+use Rattle.rl_objrules.specs.Loads.{is_heavy_in, IsSound}
 
 -- the object at a place
 abbrev pub held_in : List Held → ℕ → Held
@@ -36,11 +33,6 @@ CanPutBack (Some stood) serial op held = CanGoBack serial op stood held
 pub record IsUndoable (serial : OpSerial) (op : Op) (change : Change) (pool : List Held) : Type 0 where
   pub within : change.at < length pool
   pub can : CanPutBack change.stood serial op (held_in pool change.at)
-
--- and leaves the objects as before
-pub record IsPutBack (serial : OpSerial) (op : Op) (change : Change) (after : List Held) (before : List Held) : Type 0 where
-  pub can : IsUndoable serial op change after
-  pub back : put_back_by change.stood serial op change.at after ≡ before
 
 -- the same of a change, where there is one
 
@@ -72,10 +64,6 @@ pub record IsAppliedAt (now : ℕ) (serial : OpSerial) (op : Op) (at : ℕ) (bef
   pub outcome : done ≡ outcome serial op (held_in before at)
   pub step : after ≡ slice_set before at (held_after now serial op (held_in before at))
   pub back : IsBackBy serial op change after before
-
--- the object of an id is there, and is past the weight of one
-abbrev pub is_heavy_in : List Held → ObjectId → Bool
-is_heavy_in pool id = option_map_or is_heavy (state_at pool id) false
 
 -- it was applied to the object that it names, and what it changed can be put back
 pub record IsChanged (now : ℕ) (serial : OpSerial) (op : Op) (before : Shelf) (after : Shelf) (effect : Effect) : Type 0 where

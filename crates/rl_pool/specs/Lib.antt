@@ -1,8 +1,5 @@
-pub mod Ids
 pub mod Pools
 pub mod Live
-pub mod Rules
-pub mod Loads
 pub mod Changes
 pub mod Journal
 pub mod Admitting

@@ -1,21 +1,12 @@
 -- Pages of a pool, and what a Tick leaves at one place.
-use Rattle.std.specs.Prelude.{ℕ, Bool, true, if◌then◌else◌, nat_le, List, length, filter, map, remove, slice_set, take, Option, Some, None}
-use Rattle.std.specs.Ordering.{is_lt}
+use Rattle.std.specs.Prelude.{ℕ, Bool, if◌then◌else◌, nat_le, List, length, map, remove, slice_set, take, Option}
 use Rattle.rl_ids.specs.declared.objects.ObjectId.{ObjectId}
-use Rattle.rl_ids.specs.Objects.{id_cmp}
 use Rattle.rl_types.specs.declared.objects.ObjectState.{ObjectState}
 use Rattle.rl_objmodel.specs.Held.{Held, shown}
 use Rattle.rl_objmodel.specs.Steps.{collected_body, is_gone}
+use Rattle.rl_objrules.specs.Ids.{past_id}
 
 -- PAGES
-
--- an object comes past an id; past none all do
-abbrev pub is_past_id : Option ObjectId → Held → Bool
-is_past_id None held = true
-is_past_id (Some id) held = is_lt (id_cmp id held.id)
-
-abbrev pub past_id : Option ObjectId → List Held → List Held
-past_id after pool = filter (is_past_id after) pool
 
 -- the first of the objects past an id, as pages show them
 abbrev pub page_states : Option ObjectId → ℕ → List Held → List ObjectState

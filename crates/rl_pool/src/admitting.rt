@@ -5,18 +5,16 @@ ghost use Rattle.rl_objmodel.specs.Held.{Held};
 ghost use Rattle.rl_objmodel.specs.Operations.{id_in};
 ghost use Rattle.rl_objmodel.specs.Steps.{pool_after, pool_op_rule};
 ghost use Rattle.rl_pool.specs.Admitting.{admitted_rule, AreAdmitted, IsAdmitted, IsEnteredOr, IsJudged, IsPut};
-ghost use Rattle.rl_pool.specs.Ids.{FindsId};
+ghost use Rattle.rl_objrules.specs.Ids.{FindsId};
 ghost use Rattle.rl_pool.specs.Journal.{op_in, LeadsBack};
-ghost use Rattle.rl_pool.specs.Loads.{IsSound};
+ghost use Rattle.rl_objrules.specs.Loads.{IsSound};
 
 use crate::changes::{Change, apply_found};
 use crate::journal::{Step, record, undo_all};
-use crate::load::Shelf;
-use crate::rules::{before_rules, is_heavy_at, or_next, pool_rule};
-use crate::search::find;
 use rl_base::RoomyList;
 use rl_ids::{List, Moment, NoMemory, OpSerial};
 use rl_object::target_of;
+use rl_objrules::{Shelf, find, is_heavy_at, or_next, pool_rule, rules_before};
 use rl_types::{ObjectOp, Op};
 use std::alloc::Global;
 
@@ -51,7 +49,7 @@ pub fn judge_op(
     ensures err { OnErr result (shelf.new ≡ shelf.old) }
 {
     let found = find(shelf.objects.as_slice(), &target_of(op));
-    match before_rules(shelf.objects.as_slice(), found, op, now) {
+    match rules_before(shelf.objects.as_slice(), found, op, now) {
         Some(code) => Ok((Some(code), None)),
         None => enter(alloc, shelf, found, op, serial, now),
     }
@@ -65,7 +63,7 @@ fn judge_unnumbered(shelf: &Shelf, op: &Op, now: Moment) -> Option<u32>
     let found = find(shelf.objects.as_slice(), &target_of(op));
     let heavy = is_heavy_at(shelf.objects.as_slice(), found);
     or_next(
-        before_rules(shelf.objects.as_slice(), found, op, now),
+        rules_before(shelf.objects.as_slice(), found, op, now),
         pool_rule(shelf, heavy),
     )
 }

@@ -1,19 +1,18 @@
 // Operations that are applied one after another, each in its place.
 ghost use Rattle.std.specs.Prelude.{◌≡◌, ◌<◌, length, List, IfOk, OnOk, OnErr, Some};
 ghost use Rattle.rl_objmodel.specs.Held.{Held};
-ghost use Rattle.rl_objmodel.specs.Steps.{pool_after, pool_after_op, pool_outcome, pool_outcomes};
+ghost use Rattle.rl_objmodel.specs.Steps.{pool_after, pool_outcomes};
 ghost use Rattle.rl_pool.specs.Changes.{IsTaken};
 ghost use Rattle.rl_pool.specs.Journal.{op_in, LeadsBack};
-ghost use Rattle.rl_pool.specs.Loads.{IsSound};
+ghost use Rattle.rl_objrules.specs.Loads.{IsSound};
 
 use crate::changes::apply_found;
 use crate::journal::{Step, record, undo_all};
-use crate::load::Shelf;
-use crate::search::find;
 use rl_base::RoomyList;
 use rl_ids::{List, Moment, NoMemory, OpSerial};
 use rl_object::target_of;
 use rl_objmodel::Applied;
+use rl_objrules::{Shelf, find};
 use rl_types::ObjectOp;
 use std::alloc::Global;
 

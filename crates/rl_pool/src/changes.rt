@@ -5,14 +5,14 @@ ghost use Rattle.rl_objmodel.specs.Operations.{id_in};
 ghost use Rattle.rl_objmodel.specs.Rules.{is_heavy};
 ghost use Rattle.rl_objmodel.specs.Steps.{held_after, outcome};
 ghost use Rattle.rl_pool.specs.Changes.{added_effect, changed_at, held_in, put_back_by, put_back_if, refused_effect, CanPutBack, IsAppliedAt, IsChanged, IsUndoable, IsUndoableIf};
-ghost use Rattle.rl_pool.specs.Ids.{FindsId, IsIdHeldAt, IsIdMissedAt, IsWithin};
-ghost use Rattle.rl_pool.specs.Loads.{load_of, no_load, IsExchanged, IsSound};
+ghost use Rattle.rl_objrules.specs.Ids.{FindsId, IsIdHeldAt, IsIdMissedAt};
+ghost use Rattle.rl_objrules.specs.Loads.{load_of, no_load, IsExchanged, IsSound};
 
-use crate::load::{NO_LOAD, Shelf, exchanged, is_heavy, load_of};
 use rl_ids::{List, Moment, NoMemory, OpSerial};
 use rl_numbers::limits::MAX_OBJECT_WEIGHT;
 use rl_object::{Object, Stood, target_of};
 use rl_objmodel::Applied;
+use rl_objrules::{NO_LOAD, Shelf, exchanged, is_heavy, load_of};
 use rl_types::Op;
 use std::alloc::Global;
 

@@ -3,12 +3,12 @@ ghost use Rattle.std.specs.Prelude.{◌≡◌, IfOk, map};
 ghost use Rattle.rl_objmodel.specs.Rules.{serial_at};
 ghost use Rattle.rl_object.specs.Unnumbered.{unnumbered_held};
 ghost use Rattle.rl_pool.specs.Checks.{numbered_rules, unnumbered_pool};
-ghost use Rattle.rl_pool.specs.Loads.{IsSound};
+ghost use Rattle.rl_objrules.specs.Loads.{IsSound};
 
 use crate::admitting::judge_op;
-use crate::load::{Shelf, shelf_of};
 use rl_ids::{List, Moment, NoMemory, OpSerial, Place, SiteCode};
 use rl_object::Object;
+use rl_objrules::{Shelf, shelf_of};
 use rl_types::ObjectOp;
 use std::alloc::Global;
 

@@ -2,13 +2,13 @@
 ghost use Rattle.std.specs.Prelude.{◌≡◌, ◌<◌, length, slice_index_or};
 ghost use Rattle.rl_objmodel.specs.Held.{Held};
 ghost use Rattle.rl_objmodel.specs.Steps.{collected};
-ghost use Rattle.rl_pool.specs.Ids.{IsAscending};
-ghost use Rattle.rl_pool.specs.Loads.{IsSound};
+ghost use Rattle.rl_objrules.specs.Ids.{IsAscending};
+ghost use Rattle.rl_objrules.specs.Loads.{IsSound};
 ghost use Rattle.rl_pool.specs.Pools.{collected_at};
 
-use crate::load::{Shelf, all_load, load_fits};
 use rl_ids::{List, Moment};
 use rl_object::Object;
+use rl_objrules::{Shelf, all_load, load_fits};
 
 // Drops the object at a place, or what is collected in it.
 fn collect_at(objects: &mut List<Object>, at: usize, now: Moment)

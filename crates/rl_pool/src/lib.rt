@@ -9,11 +9,8 @@ mod collecting;
 mod journal;
 pub mod laws;
 mod live;
-mod load;
 mod pages;
 mod pool;
-mod rules;
-mod search;
 mod telling;
 #[cfg(test)]
 mod tests;

@@ -1,11 +1,11 @@
 ghost use Rattle.std.specs.Prelude.{◌≡◌, IfOk, OnOk, filter_map};
 ghost use Rattle.rl_objmodel.specs.Steps.{lives_in, live_states};
-ghost use Rattle.rl_pool.specs.Ids.{IsAscending};
+ghost use Rattle.rl_objrules.specs.Ids.{IsAscending};
 ghost use Rattle.rl_pool.specs.Live.{live_state, read_shown, read_shown_body, reads, with_option};
 
-use crate::search::find;
 use rl_ids::{Copied, List, MapValue, NoMemory, ObjectId, Text};
 use rl_object::Object;
+use rl_objrules::find;
 use rl_types::{MapCell, ObjectBody, ObjectState};
 use std::alloc::Global;
 

@@ -5,7 +5,7 @@ ghost use Rattle.rl_objmodel.specs.Rules.{Setting};
 ghost use Rattle.rl_objmodel.specs.Steps.{collected, is_bare, live_states, pool_after, pool_ops_rule, pool_outcomes, replaced, states};
 ghost use Rattle.rl_pool.specs.Admitting.{admitted_rule, IsAdmittedOr};
 ghost use Rattle.rl_pool.specs.Checks.{AreBelow};
-ghost use Rattle.rl_pool.specs.Loads.{HasRoot};
+ghost use Rattle.rl_objrules.specs.Loads.{HasRoot};
 ghost use Rattle.rl_pool.specs.Pools.{is_last_page, page_states};
 
 use crate::admitting::admit_ops;
@@ -13,13 +13,12 @@ use crate::applying::apply_ops;
 use crate::checking::{check_all, unnumbered_shelf};
 use crate::collecting::collect;
 use crate::live::live;
-use crate::load::{Shelf, shelf_of};
 use crate::pages::{first_states, is_bare, show_same};
-use crate::search::past;
 use crate::telling::told;
 use rl_ids::{Copied, List, Moment, NoMemory, ObjectId, read_site};
 use rl_object::Object;
 use rl_objmodel::Applied;
+use rl_objrules::{Shelf, past, shelf_of};
 use rl_types::{ObjectOp, ObjectState};
 use std::alloc::Global;
 use std::marker::Model;
@@ -38,7 +37,7 @@ pub struct Pool {
 impl Model for Pool {
     ghost use Rattle.std.specs.Prelude.{List};
     ghost use Rattle.rl_objmodel.specs.Held.{Held};
-    ghost use Rattle.rl_pool.specs.Loads.{IsSound};
+    ghost use Rattle.rl_objrules.specs.Loads.{IsSound};
 
     ghost Value = { List Held };
 

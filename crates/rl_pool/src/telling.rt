@@ -2,13 +2,12 @@
 ghost use Rattle.std.specs.Prelude.{◌≡◌, [], IfOk, OnOk};
 ghost use Rattle.rl_ids.specs.Objects.{kind_of};
 ghost use Rattle.rl_objmodel.specs.Steps.{is_of_kind, replaced, told_pool, with_root, with_told_state};
-ghost use Rattle.rl_pool.specs.Ids.{IsAscending};
-ghost use Rattle.rl_pool.specs.Loads.{IsSound};
+ghost use Rattle.rl_objrules.specs.Ids.{IsAscending};
+ghost use Rattle.rl_objrules.specs.Loads.{IsSound};
 
-use crate::load::{Shelf, shelf_of};
-use crate::search::{find, put};
 use rl_ids::{List, Moment, NoMemory, ObjectId, ObjectKind};
 use rl_object::{Object, kind_of};
+use rl_objrules::{Shelf, find, put, shelf_of};
 use rl_types::{ObjectBody, ObjectState};
 use std::alloc::Global;
 

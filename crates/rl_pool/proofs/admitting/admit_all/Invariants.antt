@@ -3,7 +3,7 @@ use Rattle.rl_objmodel.specs.Held.{Held}
 use Rattle.rl_objmodel.specs.Steps.{pool_after}
 use Rattle.rl_pool.specs.Admitting.{admitted_rule}
 use Rattle.rl_pool.specs.Journal.{LeadsBack}
-use Rattle.rl_pool.specs.Loads.{IsSound}
+use Rattle.rl_objrules.specs.Loads.{IsSound}
 use Rattle.rl_pool.proofs.admitting.admit_all.Given as goal
 
 -- none of the operations so far breaks a rule, and the rest is judged as they left the objects; the journal leads back

@@ -2,7 +2,7 @@ use Rattle.std.proofs.Common.{◌≡◌, ◌++◌, List, drop}
 use Rattle.rl_objmodel.specs.Held.{Held}
 use Rattle.rl_objmodel.specs.Steps.{pool_after, pool_outcomes}
 use Rattle.rl_pool.specs.Journal.{LeadsBack}
-use Rattle.rl_pool.specs.Loads.{IsSound}
+use Rattle.rl_objrules.specs.Loads.{IsSound}
 use Rattle.rl_pool.proofs.applying.apply_all.Given as goal
 
 -- with the rest applied too, they are those that all leave, and so are the outcomes; and the journal leads back

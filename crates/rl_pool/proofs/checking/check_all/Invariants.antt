@@ -1,6 +1,6 @@
 use Rattle.std.proofs.Common.{◌≡◌, drop}
 use Rattle.rl_pool.specs.Checks.{numbered_rules}
-use Rattle.rl_pool.specs.Loads.{IsSound}
+use Rattle.rl_objrules.specs.Loads.{IsSound}
 use Rattle.rl_pool.proofs.checking.check_all.Given as goal
 
 -- none of the operations so far breaks a rule, and the rest is judged as they left the objects

@@ -1,7 +1,7 @@
 use Rattle.std.proofs.Common.{◌≡◌, take}
 use Rattle.std.specs.Prelude.{map, filter}
 use Rattle.rl_objmodel.specs.Steps.{is_live_held, lives_in}
-use Rattle.rl_pool.specs.Ids.{IsAscending}
+use Rattle.rl_objrules.specs.Ids.{IsAscending}
 use Rattle.rl_pool.specs.Live.{live_state}
 use Rattle.rl_pool.proofs.live.live.Given as goal
 

@@ -1,4 +1,4 @@
-use Rattle.rl_pool.proofs.Calls.{live_there, live_missed}
+use Rattle.rl_pool.proofs.Living.{live_there, live_missed}
 use Rattle.rl_pool.proofs.live.lives.Goals as goal
 
 pub returns-in-Ok : goal.returns-in-Ok

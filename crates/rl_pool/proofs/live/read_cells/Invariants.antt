@@ -1,7 +1,7 @@
 use Rattle.std.proofs.Common.{◌≡◌, take}
 use Rattle.std.specs.Prelude.{filter_map}
 use Rattle.rl_objmodel.specs.Steps.{lives_in}
-use Rattle.rl_pool.specs.Ids.{IsAscending}
+use Rattle.rl_objrules.specs.Ids.{IsAscending}
 use Rattle.rl_pool.specs.Live.{read_shown}
 use Rattle.rl_pool.proofs.live.read_cells.Given as goal
 

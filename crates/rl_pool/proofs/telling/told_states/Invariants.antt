@@ -1,5 +1,5 @@
 use Rattle.std.proofs.Common.{◌≡◌, drop, []}
-use Rattle.rl_pool.specs.Ids.{IsAscending}
+use Rattle.rl_objrules.specs.Ids.{IsAscending}
 use Rattle.rl_objmodel.specs.Steps.{told_pool}
 use Rattle.rl_pool.proofs.telling.told_states.Given as goal
 

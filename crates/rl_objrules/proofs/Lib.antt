@@ -1,0 +1,5 @@
+pub mod Ids
+pub mod Places
+pub mod Calls
+pub mod Lists
+pub mod Limits
