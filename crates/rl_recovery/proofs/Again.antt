@@ -1,9 +1,8 @@
 -- What is written of a key is read as it again.
-use Rattle.std.proofs.Common.{◌≡◌, ℕ, ◌≤◌, ◌<◌, Bool, true, false, List, length, Some, Ok, refl, ap, ◌∙◌, leb, ltb, All, arith}
+use Rattle.std.proofs.Common.{◌≡◌, ℕ, Bool, true, false, List, length, Some, Ok, refl, ap, ◌∙◌, leb, ltb, All, arith}
 use Rattle.std.specs.Prelude.{◌&&◌}
 use Rattle.std.proofs.lemmas.Bool.{le-leb, lt-ltb}
-use Rattle.serde_json.specs.Data.{Data, string, object, Members, no_members, put, depth}
-use Rattle.serde_json.specs.Read.{read, max_depth}
+use Rattle.serde_json.specs.Data.{Data, string, object, Members, no_members, put}
 use Rattle.serde_json.specs.Written.{has_float, compact_text}
 use Rattle.rl_numbers.specs.declared.limits.TheConstants.{MAX_MESSAGE_SERIAL, MAX_CHANNEL_NAME}
 use Rattle.rl_ids.specs.Forms.{serial_text}
@@ -17,7 +16,7 @@ use Rattle.rl_jsonfields.proofs.Compact.{Plain, nothing_orderly, put_orderly, nu
 use Rattle.rl_jsonfields.proofs.Flat.{Flat, nothing, text_flat, put_flat, number_flat, string_flat, object_flat, each_member_flat}
 use Rattle.rl_jsonfields.proofs.Got.{found, required_text_found, required_number_found, required_members_found, found_rules}
 use Rattle.rl_jsonfields.proofs.Rises.{each_again}
-use Rattle.rl_recovery.specs.Keys.{Held, name_of, is_name, held_at, serials_in, key_in, value_key, key_of, serial_json, serials_json, key_members, key_value, key_text, IsName, IsHeld, IsRecoveryKey}
+use Rattle.rl_recovery.specs.Keys.{Held, name_of, is_name, held_at, serials_in, key_in, key_of, serial_json, serials_json, key_members, key_value, key_text, IsName, IsHeld, IsRecoveryKey}
 
 both_true : (a b : Bool) → a ≡ true → b ≡ true → (a && b) ≡ true
 both_true true b h k = k

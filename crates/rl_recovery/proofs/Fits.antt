@@ -1,5 +1,5 @@
 -- What is read is a key such as clients give.
-use Rattle.std.proofs.Common.{◌≡◌, ℕ, ◌≤◌, ◌<◌, Bool, true, false, cond, List, length, Option, Some, None, Ok, Err, refl, sym, subst, leb, ltb, All}
+use Rattle.std.proofs.Common.{◌≡◌, ℕ, Bool, true, false, cond, List, length, Option, Some, None, Ok, Err, refl, sym, subst, leb, ltb, All}
 use Rattle.std.specs.Prelude.{◌&&◌, IfSome, option_and_then}
 use Rattle.std.proofs.lemmas.Bool.{leb-true, ltb-true}
 use Rattle.serde_json.specs.Data.{Data}

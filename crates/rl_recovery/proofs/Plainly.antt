@@ -1,21 +1,21 @@
 -- A text is a key exactly where it is an object with the key's three members.
 use Rattle.std.proofs.Common.{◌≡◌, ◌≤◌, ◌↔◌, ℕ, List, [], ◌∷◌, Option, Some, None, Ok, Err, refl, sym, ap, subst, ◌∙◌, arith}
-use Rattle.std.specs.Prelude.{option_and_then, codes}
+use Rattle.std.specs.Prelude.{option_and_then}
 use Rattle.serde_json.specs.Data.{Data, null, boolean, number, unsigned, negative, float, string, array, object, Members, no_members, member}
-use Rattle.serde_json.specs.Find.{get_member, as_str, as_u64, as_number, as_object}
+use Rattle.serde_json.specs.Find.{as_str}
 use Rattle.serde_json.specs.Read.{read}
 use Rattle.rl_numbers.specs.declared.limits.TheConstants.{MAX_MESSAGE_SERIAL}
-use Rattle.rl_ids.specs.Forms.{serial_of, serial_text, IsSerial}
+use Rattle.rl_ids.specs.Forms.{serial_text}
 use Rattle.rl_ids.specs.declared.serials.ChannelSerial.{ChannelSerial}
 use Rattle.rl_ids.proofs.SerialTexts.{serial_only}
 use Rattle.rl_runs.specs.declared.commands.RecoveryKey.{RecoveryKey}
 use Rattle.rl_jsonfields.specs.declared.names.Field.{Field}
 use Rattle.rl_jsonfields.specs.declared.names.Field.TheVariants as fields
 use Rattle.rl_jsonfields.specs.Names.{spelled}
-use Rattle.rl_jsonfields.specs.Fields.{Reads, text, in_range, whole_in, some_members, present, field, shaped, required, each_member}
+use Rattle.rl_jsonfields.specs.Fields.{Reads, text, whole_in, some_members, present, shaped, required, each_member}
 use Rattle.rl_jsonfields.proofs.Got.{found, required_text_found, required_number_found, required_members_found}
 use Rattle.rl_jsonfields.proofs.Shapes.{bind_ok, ok_is, some_is, shaped_ok, required_where, in_range_is}
-use Rattle.rl_recovery.specs.Keys.{Held, is_name, a_serial, serial_under, held_at, serials_in, key_in, if_read, value_key, key_of, IsHeld}
+use Rattle.rl_recovery.specs.Keys.{Held, is_name, a_serial, serial_under, held_at, serials_in, key_in, if_read, value_key, key_of}
 use Rattle.rl_recovery.specs.Objects.{AreSerials, IsKeyObject, IsKeyText}
 use Rattle.rl_recovery.proofs.Again.{held_again}
 use Rattle.rl_recovery.proofs.Fits.{held_parts, chosen}

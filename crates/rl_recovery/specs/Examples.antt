@@ -1,5 +1,5 @@
 -- Small keys and texts, with which the definitions are tried.
-use Rattle.std.specs.Prelude.{ℕ, ◌≡◌, List, [], ◌∷◌, ◌++◌, Option, Some, None, codes, replicate}
+use Rattle.std.specs.Prelude.{ℕ, ◌≡◌, List, [], ◌∷◌, ◌++◌, Some, None, codes, replicate}
 use Rattle.rl_runs.specs.declared.commands.RecoveryKey.{RecoveryKey}
 use Rattle.rl_recovery.specs.Keys.{Held, key_of, key_text}
 
@@ -26,6 +26,10 @@ with_number number = codes "{\"channelSerials\":{},\"connectionKey\":\"k\",\"msg
 abbrev pub at_five : List ℕ → List ℕ
 at_five name = codes "\"" ++ name ++ codes "\":" ++ serial_front ++ codes "5\""
 
+-- two members, in order
+abbrev pub two_members : List ℕ
+two_members = codes "\"Room\":" ++ serial_front ++ codes "1\"," ++ at_five (codes "room")
+
 -- a name of so many bytes
 abbrev pub long_name : ℕ → List ℕ
 long_name count = replicate count 120
@@ -34,9 +38,9 @@ long_name count = replicate count 120
 pub record Written : Type 0 where
   pub no_channel : key_text (key_with (codes "c00000001!0000000000000007") 3 []) ≡ codes "{\"channelSerials\":{},\"connectionKey\":\"c00000001!0000000000000007\",\"msgSerial\":3}"
   pub one_channel : key_text (key_with (codes "k") 0 (held (codes "room") 5 ∷ [])) ≡ with_channels (at_five (codes "room"))
-  pub two_channels : key_text (key_with (codes "k") 0 (held (codes "Room") 1 ∷ held (codes "room") 5 ∷ [])) ≡ with_channels (codes "\"Room\":" ++ serial_front ++ codes "1\"," ++ at_five (codes "room"))
+  pub two_channels : key_text (key_with (codes "k") 0 (held (codes "Room") 1 ∷ held (codes "room") 5 ∷ [])) ≡ with_channels two_members
   pub quoted_name : key_text (key_with (codes "k") 0 (held (codes "a\"\\b") 5 ∷ [])) ≡ with_channels (at_five (codes "a\\\"\\\\b"))
-  pub out_of_order : key_text (key_with (codes "k") 0 (held (codes "room") 5 ∷ held (codes "Room") 1 ∷ [])) ≡ with_channels (codes "\"Room\":" ++ serial_front ++ codes "1\"," ++ at_five (codes "room"))
+  pub out_of_order : key_text (key_with (codes "k") 0 (held (codes "room") 5 ∷ held (codes "Room") 1 ∷ [])) ≡ with_channels two_members
   pub name_twice : key_text (key_with (codes "k") 0 (held (codes "room") 5 ∷ held (codes "room") 1 ∷ [])) ≡ with_channels (at_five (codes "room"))
 
 -- what texts are read as
