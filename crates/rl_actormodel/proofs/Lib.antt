@@ -1,0 +1,6 @@
+pub mod Answered
+pub mod Computed
+pub mod Named
+pub mod Outbox
+pub mod Positions
+pub mod Silent

@@ -1,0 +1,4 @@
+pub mod Computed
+pub mod DirectoryLaws
+pub mod History
+pub mod Keeping

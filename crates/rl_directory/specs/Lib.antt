@@ -1,0 +1,4 @@
+pub mod Directory
+pub mod Numbers
+pub mod Laws
+pub mod Examples
