@@ -7,7 +7,7 @@ use Rattle.std.specs.Cmp.Lexicographic.{slice_cmp, nat_list_cmp_total}
 use Rattle.std.specs.List.{AllByRecursion}
 use Rattle.std.proofs.lemmas.Map.Text.{is_eq-slice_cmp}
 use Rattle.std.proofs.lemmas.Slice.Eq.{bytes_eq-Decides}
-use Rattle.rl_actormodel.specs.State.{at, with_entry, without}
+use Rattle.rl_names.specs.Names.{at, with_entry, without}
 
 abbrev pub R : List ℕ → List ℕ → Ordering
 R = slice_cmp nat_cmp

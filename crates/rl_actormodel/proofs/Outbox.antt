@@ -34,7 +34,8 @@ use Rattle.rl_actormodel.specs.declared.parts.Holder.{Holder}
 use Rattle.rl_actormodel.specs.declared.parts.Session.{Session}
 use Rattle.rl_actormodel.specs.declared.parts.Wish.{Wish}
 use Rattle.rl_actormodel.specs.declared.parts.Wish.TheVariants as wishes
-use Rattle.rl_actormodel.specs.State.{State, begun, at, numbered, is_nothing, is_free, has_room, put, puts}
+use Rattle.rl_names.specs.Names.{at}
+use Rattle.rl_actormodel.specs.State.{State, begun, numbered, is_nothing, is_free, has_room, put, puts}
 use Rattle.rl_actormodel.specs.Ends.{farewell, ended_by, over_at}
 use Rattle.rl_actormodel.specs.Wishes.{wanted, call_of, page_of, read_of, page_call, poll_call}
 use Rattle.rl_actormodel.specs.Takes.{Came, A, Unknown, Bad, publish, took}

@@ -34,7 +34,8 @@ use Rattle.rl_actormodel.specs.declared.parts.Holder.{Holder}
 use Rattle.rl_actormodel.specs.declared.parts.Session.{Session}
 use Rattle.rl_actormodel.specs.declared.parts.Wish.{Wish}
 use Rattle.rl_actormodel.specs.declared.parts.Wish.TheVariants as wishes
-use Rattle.rl_actormodel.specs.State.{State, begun, first_wish, at, with_entry, has_number, numbered, is_free, put, puts}
+use Rattle.rl_names.specs.Names.{at, with_entry}
+use Rattle.rl_actormodel.specs.State.{State, begun, first_wish, has_number, numbered, is_free, put, puts}
 use Rattle.rl_actormodel.specs.Ends.{lost_wish, last_wish, ended_by, over_at}
 use Rattle.rl_actormodel.specs.Wishes.{wanted, call_of, page_of, read_of, page_call, poll_call}
 use Rattle.rl_actormodel.specs.Takes.{Came, A, Unknown, Bad, attach_wish, begin_wish, close_wish, publish, took}

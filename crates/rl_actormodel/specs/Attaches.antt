@@ -8,7 +8,8 @@ use Rattle.rl_pages.specs.State.{new_pages}
 use Rattle.rl_actormodel.specs.declared.parts.Asked.{Asked}
 use Rattle.rl_actormodel.specs.declared.parts.Session.{Session}
 use Rattle.rl_actormodel.specs.declared.parts.Wish.TheVariants as wishes
-use Rattle.rl_actormodel.specs.State.{State, with_entry, wishing, put}
+use Rattle.rl_names.specs.Names.{with_entry}
+use Rattle.rl_actormodel.specs.State.{State, wishing, put}
 use Rattle.rl_actormodel.specs.Replies.{Joining}
 
 -- the channel's number is known from now on, and it is joined; where the directory is full the channel gets an ERROR

@@ -4,7 +4,8 @@ use Rattle.rl_events.specs.declared.channel.ChannelReply.{ChannelReply}
 use Rattle.rl_types.specs.declared.frames.Frame.{Frame}
 use Rattle.rl_pages.specs.State.{Sequences, page_frame, page_absorbed, may_end, end_frames, ended}
 use Rattle.rl_actormodel.specs.declared.parts.Session.{Session}
-use Rattle.rl_actormodel.specs.State.{State, with_entry, puts}
+use Rattle.rl_names.specs.Names.{with_entry}
+use Rattle.rl_actormodel.specs.State.{State, puts}
 
 -- a session with other pages. (This project's own.)
 abbrev pub paged : Sequences → Session → Session

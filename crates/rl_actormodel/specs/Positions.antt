@@ -10,7 +10,8 @@ use Rattle.rl_events.specs.declared.calls.DirReply.TheVariants as directory
 use Rattle.rl_events.specs.declared.calls.Call.TheVariants as calls
 use Rattle.rl_events.specs.declared.calls.Reply.TheVariants as replies
 use Rattle.rl_actormodel.specs.declared.parts.Session.{Session}
-use Rattle.rl_actormodel.specs.State.{begun, at}
+use Rattle.rl_names.specs.Names.{at}
+use Rattle.rl_actormodel.specs.State.{begun}
 use Rattle.rl_actormodel.specs.Inputs.{Input, Absorbed, after}
 use Rattle.rl_actormodel.specs.Conditions.{AreAllowed}
 

@@ -9,7 +9,8 @@ use Rattle.rl_actormodel.specs.declared.parts.Publish.{Publish}
 use Rattle.rl_actormodel.specs.declared.parts.Holder.{Holder}
 use Rattle.rl_actormodel.specs.declared.parts.Wish.{Wish}
 use Rattle.rl_actormodel.specs.declared.parts.Wish.TheVariants as wishes
-use Rattle.rl_actormodel.specs.State.{State, at, with_entry, wishing, put}
+use Rattle.rl_names.specs.Names.{at, with_entry}
+use Rattle.rl_actormodel.specs.State.{State, wishing, put}
 use Rattle.rl_actormodel.specs.Ends.{ended_by}
 use Rattle.rl_actormodel.specs.Replies.{Beginning, Overtaken, Missing, Knows, Above, Below, Goes}
 

@@ -16,7 +16,8 @@ use Rattle.rl_events.specs.declared.calls.Reply.{Reply}
 use Rattle.rl_actormodel.specs.declared.parts.Session.{Session}
 use Rattle.rl_actormodel.specs.declared.parts.Wish.{Wish}
 use Rattle.rl_actormodel.specs.declared.parts.Wish.TheVariants as wishes
-use Rattle.rl_actormodel.specs.State.{State, numbered, with_entry, wishing, puts}
+use Rattle.rl_names.specs.Names.{with_entry}
+use Rattle.rl_actormodel.specs.State.{State, numbered, wishing, puts}
 use Rattle.rl_actormodel.specs.Ends.{ended_by}
 use Rattle.rl_actormodel.specs.Replies.{standing, beginning, opening, holder_in, number_in, joining_in, outcome_in, Reading, Came, Behind, Unread, reading, channel_reply}
 use Rattle.rl_actormodel.specs.Connects.{resumed_by, opened_by, if_held, closed}

@@ -1,9 +1,5 @@
 -- What an actor keeps, and the small steps of which all others are made.
 use Rattle.std.specs.Prelude.{ℕ, Bool, true, false, ◌&&◌, ◌==◌, nat_le, is_none, List, [], ◌∷◌, ◌++◌, length, map, find, Option, Some, None, slice_get}
-use Rattle.std.specs.Ordering.{nat_cmp}
-use Rattle.std.specs.Cmp.Lexicographic.{slice_cmp}
-use Rattle.std.specs.Map.{lookup, remove_entry}
-use Rattle.std.specs.BTreeMap.{is_at, insert_entry}
 use Rattle.rl_numbers.specs.declared.limits.TheConstants.{OUTBOX_ROOM}
 use Rattle.rl_types.specs.declared.frames.Frame.{Frame}
 use Rattle.rl_runs.specs.declared.commands.Hello.{Hello}
@@ -50,20 +46,7 @@ begun hello now = record {
   ended = None;
 }
 
--- BY NAME
-
-module _ {V : Type 0} where
-  -- what stands at a name. (This project's own, as the next two.)
-  abbrev pub at : List ℕ → List (List ℕ × V) → Option V
-  at name entries = lookup (is_at (slice_cmp nat_cmp name)) entries
-
-  -- the entries with this one at the name
-  abbrev pub with_entry : List ℕ → V → List (List ℕ × V) → List (List ℕ × V)
-  with_entry name value entries = insert_entry (slice_cmp nat_cmp) entries name value
-
-  -- the entries without the one at the name
-  abbrev pub without : List ℕ → List (List ℕ × V) → List (List ℕ × V)
-  without name entries = remove_entry (is_at (slice_cmp nat_cmp name)) entries
+-- SESSIONS
 
 -- a session on the channel of this number. (This project's own.)
 abbrev pub has_number : ℕ → List ℕ × Session → Bool

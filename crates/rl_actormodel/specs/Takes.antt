@@ -14,7 +14,8 @@ use Rattle.rl_actormodel.specs.declared.parts.Publish.{Publish}
 use Rattle.rl_actormodel.specs.declared.parts.Holder.{Holder}
 use Rattle.rl_actormodel.specs.declared.parts.Wish.{Wish}
 use Rattle.rl_actormodel.specs.declared.parts.Wish.TheVariants as wishes
-use Rattle.rl_actormodel.specs.State.{State, at, without, wishing, put}
+use Rattle.rl_names.specs.Names.{at, without}
+use Rattle.rl_actormodel.specs.State.{State, wishing, put}
 use Rattle.rl_actormodel.specs.Ends.{ended_by}
 
 -- ATTACH AND DETACH

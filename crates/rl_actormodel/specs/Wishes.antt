@@ -12,7 +12,8 @@ use Rattle.rl_pages.specs.State.{next_event}
 use Rattle.rl_actormodel.specs.declared.parts.Wish.{Wish}
 use Rattle.rl_actormodel.specs.declared.parts.Wish.TheVariants as wishes
 use Rattle.rl_actormodel.specs.declared.parts.Session.{Session}
-use Rattle.rl_actormodel.specs.State.{State, at, is_free}
+use Rattle.rl_names.specs.Names.{at}
+use Rattle.rl_actormodel.specs.State.{State, is_free}
 
 -- THE CALL THAT IS WANTED
 

@@ -24,7 +24,7 @@ use Rattle.rl_ackq.specs.Frames.{with_serial}
 use Rattle.rl_ackq.specs.Queue.{Queue, is_full, pushed}
 use Rattle.rl_clientmodel.specs.declared.steps.ChannelStep.{ChannelStep}
 use Rattle.rl_clientmodel.specs.declared.steps.ChannelStep.TheVariants.{Moves}
-use Rattle.rl_clientmodel.specs.Names.{at, with_entry, without}
+use Rattle.rl_names.specs.Names.{at, with_entry, without}
 use Rattle.rl_clientmodel.specs.Channels.{ClientChannel, channel_from, new_channel}
 use Rattle.rl_clientmodel.specs.States.{ClientState, Turn, quietly, sending, change_channel, conn_moved, moving, step_channel, stepped}
 

@@ -37,7 +37,7 @@ use Rattle.rl_presmap.specs.Steps.{members}
 use Rattle.rl_objmodel.specs.Steps.{live_states}
 use Rattle.rl_clientmodel.specs.declared.runs.Beginning.{Beginning}
 use Rattle.rl_clientmodel.specs.declared.runs.Beginning.TheVariants.{Answered}
-use Rattle.rl_clientmodel.specs.Names.{at}
+use Rattle.rl_names.specs.Names.{at}
 use Rattle.rl_clientmodel.specs.Runs.{cause_of, start_of}
 use Rattle.rl_clientmodel.specs.Channels.{ClientChannel}
 use Rattle.rl_clientmodel.specs.States.{ClientState, new_state}

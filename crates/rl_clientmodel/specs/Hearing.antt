@@ -16,7 +16,7 @@ use Rattle.rl_ackq.specs.Frames.{with_serial}
 use Rattle.rl_ackq.specs.Queue.{Queue, is_full, pushed, renumbered, settled, settled_serials}
 use Rattle.rl_ackq.specs.Queue as queues
 use Rattle.rl_clientmodel.specs.declared.steps.ChannelStep.TheVariants.{DetachedGot, ErrorGot, Moves}
-use Rattle.rl_clientmodel.specs.Names.{at}
+use Rattle.rl_names.specs.Names.{at}
 use Rattle.rl_clientmodel.specs.Channels.{ClientChannel}
 use Rattle.rl_clientmodel.specs.Answers.{attached_got, is_answer}
 use Rattle.rl_clientmodel.specs.Entries.{entry_got, object_page_got, page_got}

@@ -1,4 +1,3 @@
-pub mod Names
 pub mod Runs
 pub mod Channels
 pub mod Answers

@@ -12,7 +12,7 @@ use Rattle.rl_connsm.specs.declared.table.ConnEvent.TheVariants as events
 use Rattle.rl_chansm.specs.Connection.{event_of}
 use Rattle.rl_chansm.specs.declared.table.ChanEvent.{ChanEvent}
 use Rattle.rl_ackq.specs.Queue.{Queue, new_queue}
-use Rattle.rl_clientmodel.specs.Names.{at, each, with_entry}
+use Rattle.rl_names.specs.Names.{at, each, with_entry}
 use Rattle.rl_clientmodel.specs.declared.steps.ChannelStep.{ChannelStep}
 use Rattle.rl_clientmodel.specs.declared.steps.ChannelStep.TheVariants.{LinkLost, LinkOpened, Moves}
 use Rattle.rl_clientmodel.specs.Channels.{ClientChannel, channel_after, channel_asks}
