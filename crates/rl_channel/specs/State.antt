@@ -7,6 +7,7 @@ use Rattle.rl_events.specs.declared.channel.ChannelReply.{ChannelReply}
 use Rattle.rl_events.specs.declared.channel.Verdict.{Verdict}
 use Rattle.rl_types.specs.declared.messages.Body.{Body}
 use Rattle.rl_types.specs.declared.messages.Entry.{Entry}
+use Rattle.rl_types.specs.declared.objects.ObjectState.{ObjectState}
 use Rattle.rl_objmodel.specs.Held.{Held}
 use Rattle.rl_objmodel.specs.Operations.{Stamped, id_of}
 use Rattle.rl_ids.specs.Objects.{IsIdInRange}
@@ -18,7 +19,7 @@ use Rattle.rl_model.specs.Verdict.{log}
 use Rattle.rl_model.specs.Members.{members}
 use Rattle.rl_model.specs.Objects.{operated}
 use Rattle.rl_model.specs.Parts.{Parts, parts_of}
-use Rattle.rl_model.specs.Reply.{gone_place, objects_at, reply}
+use Rattle.rl_model.specs.Reply.{gone_place, objects_at, reply, states_at}
 use Rattle.rl_chanlog.specs.Keeps.{ChanLogView, Keeps}
 use Rattle.rl_channel.specs.declared.channel.ChannelSetup.{ChannelSetup}
 
@@ -93,6 +94,10 @@ StaysLog old new = (parts : Parts) → Keeps old.log parts → Keeps new.log par
 -- the members that a history leaves of this channel
 abbrev pub members_after : ChannelState → List ChannelEvent → List PresenceItem
 members_after state past = members (log state.setup.site past)
+
+-- the objects that it leaves of it, as pages show them
+abbrev pub objects_after : ChannelState → List ChannelEvent → List ObjectState
+objects_after state past = states_at state.setup.site past
 
 -- of each history that the channel stood for: a connection that is gone after it is answered so, and what is kept now
 -- stands for the history with that

@@ -6,11 +6,11 @@ ghost use Rattle.std.specs.Option.{option_copied};
 ghost use Rattle.rl_types.specs.Weight.{body_weight};
 ghost use Rattle.rl_model.specs.Members.{is_last_page, page_items};
 ghost use Rattle.rl_model.specs.Parts.{Parts, parts_of, with_entry, with_outcome};
-ghost use Rattle.rl_model.specs.Reply.{asked_place, has_objects, has_presence, is_resumed, joined_place, read_reply, states_at};
+ghost use Rattle.rl_model.specs.Reply.{asked_place, has_objects, has_presence, is_resumed, joined_place, read_reply};
 ghost use Rattle.rl_model.specs.Objects.{is_last_states, page_states};
 ghost use Rattle.rl_model.specs.Verdict.{decisions, head, remembered_of};
 ghost use Rattle.rl_chanlog.specs.Keeps.{IsReady, Keeps};
-ghost use Rattle.rl_channel.specs.State.{Decides, DecidesLate, StandsFor, Stays, StaysLog, members_after, next_entry};
+ghost use Rattle.rl_channel.specs.State.{Decides, DecidesLate, StandsFor, Stays, StaysLog, members_after, next_entry, objects_after};
 ghost use Rattle.rl_channel.specs.Steps.{goes_on, settled_at, settled_parts};
 ghost use Rattle.rl_channel.specs.Changes.{Changes, Operates};
 
@@ -445,8 +445,8 @@ impl Channel {
         after: Option<&ObjectId>,
         max: usize,
     ) -> Result<ObjectPage, NoMemory>
-        ensures states { IfOk result (λ page. (past : List ChannelEvent) → StandsFor self.now past → page.states ≡ page_states (option_copied after.entry) max (states_at self.now.setup.site past)) }
-        ensures last { IfOk result (λ page. (past : List ChannelEvent) → StandsFor self.now past → page.last ≡ is_last_states (option_copied after.entry) max (states_at self.now.setup.site past)) }
+        ensures states { IfOk result (λ page. (past : List ChannelEvent) → StandsFor self.now past → page.states ≡ page_states (option_copied after.entry) max (objects_after self.now past)) }
+        ensures last { IfOk result (λ page. (past : List ChannelEvent) → StandsFor self.now past → page.last ≡ is_last_states (option_copied after.entry) max (objects_after self.now past)) }
         ensures head { IfOk result (λ page. (past : List ChannelEvent) → StandsFor self.now past → page.head ≡ head self.now.setup.site past) }
         ensures stands { (past : List ChannelEvent) → StandsFor self.now past → StandsFor self.now (ChannelEvent.ObjectPage (option_copied after.entry) max ∷ past) }
     {

@@ -58,6 +58,10 @@ slot key held = find (is_held_of key) held
 abbrev pub with_slot : MemberKey → Option Held → List Held → List Held
 with_slot key one held = filter (is_before key) held ++ (option_to_list one ++ filter (is_behind key) held)
 
+-- this, where it is something, in place of what stands at a place
+abbrev pub replaced_at : ℕ → Option Held → List Held → List Held
+replaced_at at one held = take at held ++ (option_to_list one ++ drop (suc at) held)
+
 -- each key comes before those of all later ones
 abbrev pub AreRising : List Held → Type 0
 AreRising [] = ⊤

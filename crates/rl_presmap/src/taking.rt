@@ -2,7 +2,7 @@
 ghost use Rattle.std.specs.Prelude.{◌≡◌, ◌<◌, ◌≤◌, ◌+◌, ◌++◌, ◌∷◌, suc, take, drop, option_to_list, vec_len, insert, slice_get, Some, false};
 ghost use Rattle.std.specs.Vec.{vec_capacity};
 ghost use Rattle.rl_presmap.specs.declared.held.Held.{Held};
-ghost use Rattle.rl_presmap.specs.Held.{AreRising, is_member};
+ghost use Rattle.rl_presmap.specs.Held.{AreRising, is_member, replaced_at};
 ghost use Rattle.rl_presmap.specs.Steps.{is_absent, stored, told_as, told, slot_after, with_item, event_of, named};
 
 use crate::events::PresenceEvent;
@@ -62,7 +62,7 @@ fn place(held: &mut Vec<Held>, at: usize, slot: Option<Held>)
 // Puts this, or nothing, in the place of what is held there.
 fn replace(held: &mut Vec<Held>, at: usize, slot: Option<Held>)
     requires { at < vec_len held.old }
-    ensures items { held.new.items ≡ take at held.old.items ++ (option_to_list slot ++ drop (suc at) held.old.items) }
+    ensures items { held.new.items ≡ replaced_at at slot held.old.items }
     ensures len { vec_len held.new ≤ vec_len held.old }
     ensures capacity { vec_capacity held.old ≤ vec_capacity held.new }
 {
@@ -91,7 +91,7 @@ fn take_first(held: &mut Vec<Held>, at: usize, syncing: bool, ready: Ready) -> O
 // Takes an item up in place of what is held of its key, than which it is newer.
 fn take_newer(held: &mut Vec<Held>, at: usize, syncing: bool, ready: Ready) -> Option<PresenceEvent>
     requires { at < vec_len held.old }
-    ensures items { held.new.items ≡ take at held.old.items ++ (option_to_list (stored ready.action syncing ready) ++ drop (suc at) held.old.items) }
+    ensures items { held.new.items ≡ replaced_at at (stored ready.action syncing ready) held.old.items }
     ensures event { (was : Held) → slice_get held.old.items at ≡ Some was → result ≡ told_as ready.action (is_member was) ready }
     ensures len { vec_len held.new ≤ vec_len held.old }
     ensures capacity { vec_capacity held.old ≤ vec_capacity held.new }
@@ -115,7 +115,7 @@ fn name(held: &mut Vec<Held>, at: usize)
 // Takes an item up where something is held of its key.
 fn take_again(held: &mut Vec<Held>, at: usize, syncing: bool, ready: Ready) -> Option<PresenceEvent>
     requires { at < vec_len held.old }
-    ensures items { (was : Held) → slice_get held.old.items at ≡ Some was → held.new.items ≡ take at held.old.items ++ (option_to_list (slot_after syncing ready (Some was)) ++ drop (suc at) held.old.items) }
+    ensures items { (was : Held) → slice_get held.old.items at ≡ Some was → held.new.items ≡ replaced_at at (slot_after syncing ready (Some was)) held.old.items }
     ensures event { (was : Held) → slice_get held.old.items at ≡ Some was → result ≡ told ready (Some was) }
     ensures len { vec_len held.new ≤ vec_len held.old }
     ensures capacity { vec_capacity held.old ≤ vec_capacity held.new }

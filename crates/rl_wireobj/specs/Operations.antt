@@ -130,7 +130,10 @@ operation_members (ops.Delete id) = head_members OBJECT_DELETE id
 abbrev pub site_of : OpSerial → List ℕ
 site_of s = s.site
 
--- with the serial stands the site that gave it
+-- the members with a serial, and with it the site that gave it, where there is one
+abbrev pub with_op_serial : Option OpSerial → Members → Members
+with_op_serial serial members = with_text fields.SiteCode (option_map site_of serial) (with_text fields.Serial (option_map op_serial_text serial) members)
+
+-- an operation as an item of an OBJECT frame
 unfoldable pub op_json : ObjectOp → Data
-op_json op =
-    object (with_text fields.SiteCode (option_map site_of op.serial) (with_text fields.Serial (option_map op_serial_text op.serial) (with fields.Operation (object (operation_members op.op)) no_members)))
+op_json op = object (with_op_serial op.serial (with fields.Operation (object (operation_members op.op)) no_members))

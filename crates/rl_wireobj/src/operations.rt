@@ -2,13 +2,10 @@
 ghost use Rattle.std.specs.Prelude.{◌≡◌, Ok, IfOk, OnOk, option_map, unwrap_or};
 ghost use Rattle.serde_json.specs.Data.{no_members};
 ghost use Rattle.serde_json.specs.View.{view, members_view};
-ghost use Rattle.rl_ids.specs.Objects.{op_serial_text};
 ghost use Rattle.rl_types.specs.declared.objects.Op.TheVariants as ops;
-ghost use Rattle.rl_jsonfields.specs.declared.names.Field.TheVariants as fields;
 ghost use Rattle.rl_jsonfields.specs.Fields.{Gives, each_member};
-ghost use Rattle.rl_jsonfields.specs.Texts.{with_text};
 ghost use Rattle.rl_wireobj.specs.Sendable.{IsSendableOp};
-ghost use Rattle.rl_wireobj.specs.Operations.{semantics, entries_in, entry_at, map_create, map_set, map_remove, counter_create, counter_inc, by_action, operation, op_at, entry_json, entries_json, head_members, operation_members, site_of, op_json};
+ghost use Rattle.rl_wireobj.specs.Operations.{semantics, entries_in, entry_at, map_create, map_set, map_remove, counter_create, counter_inc, by_action, operation, op_at, entry_json, entries_json, head_members, operation_members, with_op_serial, op_json};
 
 use crate::actions::{Action, required_action};
 use crate::members::{FromMember, ToMember, read_members, write_members};
@@ -303,7 +300,7 @@ fn set_some_serial(
     object: &mut Object,
     serial: &Option<OpSerial>,
 ) -> Result<(), NoMemory>
-    ensures { OnOk result (members_view object.new.entries ≡ with_text fields.SiteCode (option_map site_of serial.now) (with_text fields.Serial (option_map op_serial_text serial.now) (members_view object.old.entries))) }
+    ensures { OnOk result (members_view object.new.entries ≡ with_op_serial serial.now (members_view object.old.entries)) }
 {
     match serial {
         Some(serial) => {
