@@ -3,7 +3,7 @@ use Rattle.std.proofs.Common.{refl}
 use Rattle.std.specs.Fmt.{digits}
 use Rattle.std.specs.Str.{is_utf8, chars}
 use lib.Utf8.{encode}
-use Rattle.rl_clientmodel.specs.Examples.{ConnectionsStand, AnswersAreOwed, RunsGoOn, QueueIsKept, TimePasses, MembersAreHeld, OwnMembersEnter, ObjectsAreHeld, KeysRecover, CommandsAreRefused}
+use Rattle.rl_clientmodel.specs.Examples.{ConnectionsStand, AnswersAreOwed, RunsGoOn, QueueIsKept, TimePasses, MembersAreHeld, OwnMembersEnter, ObjectsAreHeld, KeysRecover, CommandsAreRefused, ClientsAreShown}
 
 pub connections_stand : ConnectionsStand
 unfolding digits is_utf8 chars encode
@@ -25,6 +25,15 @@ connections_stand = record {
   closed_at_once = refl;
   dies = refl;
   unasked_closed = refl;
+  key_told_last = refl;
+  id_forgotten = refl;
+  closes_once = refl;
+  closes_quietly = refl;
+  close_drops = refl;
+  close_waits = refl;
+  closing_unlinked = refl;
+  closing_disconnected = refl;
+  closing_fatal = refl;
 }
 
 pub answers_are_owed : AnswersAreOwed
@@ -54,6 +63,23 @@ answers_are_owed = record {
   unknown = refl;
   unknown_answer = refl;
   all_fail = refl;
+  new_link = refl;
+  dropped_link = refl;
+  silent_link = refl;
+  suspended_at_once = refl;
+  suspended_then = refl;
+  closing_at_once = refl;
+  closing_quietly = refl;
+  stays_detached = refl;
+  stays_failed = refl;
+  unasked_closing = refl;
+  unasked_waits = refl;
+  at_place = refl;
+  in_order = refl;
+  one_alone = refl;
+  endless = refl;
+  endless_count = refl;
+  endless_error = refl;
 }
 
 pub runs_go_on : RunsGoOn
@@ -86,6 +112,8 @@ runs_go_on = record {
   opens_again = refl;
   away = refl;
   away_once = refl;
+  got_after_moving = refl;
+  detaching = refl;
 }
 
 pub queue_is_kept : QueueIsKept
@@ -104,6 +132,11 @@ queue_is_kept = record {
   anew = refl;
   dropped = refl;
   begins_anew = refl;
+  answers_in_order = refl;
+  acknowledged_by = refl;
+  dropped_twice = refl;
+  dropped_endlessly = refl;
+  operations = refl;
 }
 
 pub time_passes : TimePasses
@@ -128,6 +161,19 @@ time_passes = record {
   not_linked = refl;
   late_answer = refl;
   asked_twice = refl;
+  connected_counts = refl;
+  connected_counts_then = refl;
+  commands_do_not = refl;
+  left_last = refl;
+  left_connected = refl;
+  no_more_suspended = refl;
+  suspending_drops = refl;
+  one_at_a_time = refl;
+  lost_link = refl;
+  closing_link = refl;
+  asked_again = refl;
+  asked_again_late = refl;
+  told_twice = refl;
 }
 
 pub members_are_held : MembersAreHeld
@@ -146,6 +192,12 @@ members_are_held = record {
   suspended = refl;
   gone = refl;
   failing = refl;
+  unasked = refl;
+  unasked_sync = refl;
+  late_answer = refl;
+  place_0 = refl;
+  no_serial = refl;
+  skipping = refl;
 }
 
 pub own_members_enter : OwnMembersEnter
@@ -159,6 +211,13 @@ own_members_enter = record {
   after_suspended = refl;
   in_closing = refl;
   queued_in_closing = refl;
+  not_the_last = refl;
+  not_failed = refl;
+  after_unasked = refl;
+  skipped = refl;
+  skipped_serial = refl;
+  refused = refl;
+  not_attached = refl;
 }
 
 pub objects_are_held : ObjectsAreHeld
@@ -180,6 +239,8 @@ objects_are_held = record {
   collected = refl;
   unlinked_too = refl;
   waits = refl;
+  unasked = refl;
+  page_early = refl;
 }
 
 pub keys_recover : KeysRecover
@@ -202,6 +263,9 @@ keys_recover = record {
   twice = refl;
   id = refl;
   all = refl;
+  key_held = refl;
+  held_alone = refl;
+  held_detaching = refl;
 }
 
 pub commands_are_refused : CommandsAreRefused
@@ -224,4 +288,22 @@ commands_are_refused = record {
   enter_unlinked = refl;
   full = refl;
   close = refl;
+  not_attached_at = refl;
+  not_attached = refl;
+  not_queued = refl;
+  detach_suspended = refl;
+  enter_before_full = refl;
+  operate_full = refl;
+  attach_at_recovered = refl;
+  publish_closing = refl;
+  publish_late = refl;
+}
+
+pub clients_are_shown : ClientsAreShown
+unfolding digits is_utf8 chars encode
+clients_are_shown = record {
+  one = refl;
+  names = refl;
+  dropped = refl;
+  closed = refl;
 }

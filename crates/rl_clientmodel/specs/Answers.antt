@@ -55,14 +55,18 @@ answered flags told channel =
 
 -- ONE THAT NOBODY ASKED FOR
 
-abbrev pub runs_unasked : Option ChannelSerial → Bool → ChannelSerial → List Run → List Run
-runs_unasked None resumed told runs = runs
-runs_unasked (Some held) resumed told runs = runs_with (goes_on_unasked held resumed told) (Unasked held resumed told) runs
+-- the record after it, in which the latest run goes on or a new one begins
+abbrev pub with_unasked : Option ChannelSerial → Bool → ChannelSerial → ClientChannel → ClientChannel
+with_unasked None resumed told channel = channel
+with_unasked (Some held) resumed told channel =
+    record channel {
+      runs = runs_with (goes_on_unasked held resumed told) (Unasked held resumed told) channel.runs;
+      away = channel.away && goes_on_unasked held resumed told;
+    }
 
 abbrev pub told_unasked : ℕ → ChannelSerial → ClientChannel → ClientChannel
 told_unasked flags told channel =
-    with_syncs flags
-    (record channel { held = Some told; runs = runs_unasked channel.held (is_resumed flags) told channel.runs })
+    with_syncs flags (record (with_unasked channel.held (is_resumed flags) told channel) { held = Some told })
 
 -- ANY
 

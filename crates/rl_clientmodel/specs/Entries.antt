@@ -1,5 +1,5 @@
 -- What an entry and a page make of a channel (RTL15b, RTP2, RTP18, RTO5, RTO7, RTO8).
-use Rattle.std.specs.Prelude.{ℕ, zero, suc, Bool, true, false, if◌then◌else◌, List, [], ◌∷◌, filter, is_some, Option, Some, None}
+use Rattle.std.specs.Prelude.{ℕ, zero, suc, Bool, true, false, not, if◌then◌else◌, List, [], ◌∷◌, filter, is_some, Option, Some, None}
 use Rattle.rl_ids.specs.declared.serials.ChannelSerial.{ChannelSerial}
 use Rattle.rl_types.specs.declared.frames.Cursor.{Cursor}
 use Rattle.rl_types.specs.declared.messages.Body.{Body}
@@ -24,10 +24,10 @@ abbrev pub runs_before : Option ChannelSerial → ℕ → ChannelSerial → List
 runs_before None before told runs = runs
 runs_before (Some held) before told runs = runs_with (follows held before told.epoch) (Skipped held told) runs
 
--- that the latest run of the record is a new one
+-- whether one begins
 abbrev pub skips : Option ChannelSerial → ℕ → ChannelSerial → Bool
 skips None before told = false
-skips (Some held) before told = if follows held before told.epoch then false else true
+skips (Some held) before told = not (follows held before told.epoch)
 
 -- an operation without a serial is not given to the object sync (this project's own)
 abbrev pub has_serial : ObjectOp → Bool

@@ -1,5 +1,5 @@
 -- Small clients whose states, frames and records are known, with which the definitions are tried.
-use Rattle.std.specs.Prelude.{◌≡◌, ℕ, Bool, true, false, List, [], ◌∷◌, ◌++◌, length, map, reverse, Option, Some, None, option_map, codes, pos}
+use Rattle.std.specs.Prelude.{◌≡◌, ℕ, ◌-◌, ◌^◌, Bool, true, false, List, [], ◌∷◌, ◌++◌, length, map, reverse, Option, Some, None, option_map, codes, pos}
 use Rattle.rl_numbers.specs.declared.limits.TheConstants.{MAX_MESSAGE_SERIAL}
 use Rattle.rl_ids.specs.declared.serials.ChannelSerial.{ChannelSerial}
 use Rattle.rl_ids.specs.declared.serials.OpSerial.{OpSerial}
@@ -39,12 +39,14 @@ use Rattle.rl_clientmodel.specs.declared.runs.Beginning.{Beginning}
 use Rattle.rl_clientmodel.specs.declared.runs.Beginning.TheVariants.{Answered}
 use Rattle.rl_names.specs.Names.{at}
 use Rattle.rl_clientmodel.specs.Runs.{cause_of, start_of}
-use Rattle.rl_clientmodel.specs.Channels.{ClientChannel}
+use Rattle.rl_clientmodel.specs.declared.steps.ChannelStep.TheVariants.{ErrorGot}
+use Rattle.rl_clientmodel.specs.Answers.{attached_got}
+use Rattle.rl_clientmodel.specs.Channels.{ClientChannel, channel_after, new_channel}
 use Rattle.rl_clientmodel.specs.States.{ClientState, new_state}
 use Rattle.rl_clientmodel.specs.Commands.{Refusal, WrongState, Full, hello_of, refusal}
 use Rattle.rl_clientmodel.specs.Keys.{recovery_key}
 use Rattle.rl_clientmodel.specs.Inputs.{Input, Told, Heard, Unlinked, Ticked, Recovers, after, sent, step}
-use Rattle.rl_clientmodel.specs.Shown.{members_whole, objects_whole}
+use Rattle.rl_clientmodel.specs.Shown.{findings_of, members_whole, objects_whole}
 
 -- INPUTS, IN ORDER
 
@@ -163,6 +165,37 @@ again = Unlinked 0 ∷ connect ∷ connected_as first_id ∷ []
 abbrev pub left_and_back : List Input
 left_and_back = detach ∷ detached ∷ attach ∷ attached 3 0 ∷ []
 
+abbrev pub other : List ℕ
+other = codes "other"
+
+abbrev pub attach_other : Input
+attach_other = Told (Attach other) 0
+
+abbrev pub die : Input
+die = Told Die 0
+
+abbrev pub close_asked : Input
+close_asked = Told Close 0
+
+abbrev pub fatal_error : Input
+fatal_error = gets (frames.Error None 120)
+
+abbrev pub disconnected : Input
+disconnected = gets (frames.Disconnected None)
+
+-- CONNECTED, with another id, with another key, and at another moment
+abbrev pub as_other : Input
+as_other = connected_as (codes "c2")
+
+abbrev pub other_key : Input
+other_key = gets (frames.Connected first_id (codes "k2") 120000 15000 65536 None)
+
+abbrev pub connected_at : ℕ → Input
+connected_at now = Heard (Some (frames.Connected first_id first_key 120000 15000 65536 None)) now
+
+abbrev pub conn_in : List Input → ConnState
+conn_in inputs = (state_of inputs).conn
+
 -- CONNECTING
 
 pub record ConnectionsStand : Type 0 where
@@ -183,8 +216,21 @@ pub record ConnectionsStand : Type 0 where
   pub closed_at_once : (state_of (connect ∷ Told Close 0 ∷ [])).conn ≡ conn.Closed
   pub dies : drops (Told Die 0) up ≡ true
   pub unasked_closed : (state_of (up ++ gets frames.Closed ∷ [])).conn ≡ conn.Connected
+  pub key_told_last : hello_of (state_of (up ++ Unlinked 0 ∷ connect ∷ other_key ∷ Unlinked 0 ∷ connect ∷ [])) 7 ≡ record { client = Some (codes "A"); resume = Some (codes "k2"); word = 7 }
+  pub id_forgotten : (state_of (up ++ die ∷ [])).id ≡ None
+  pub closes_once : sent_in (up ++ close_asked ∷ close_asked ∷ []) ≡ frames.Close ∷ []
+  pub closes_quietly : sent_in (up ++ Unlinked 0 ∷ close_asked ∷ []) ≡ []
+  pub close_drops : drops close_asked (connect ∷ []) ≡ true
+  pub close_waits : drops close_asked up ≡ false
+  pub closing_unlinked : conn_in (up ++ close_asked ∷ Unlinked 0 ∷ []) ≡ conn.Closed
+  pub closing_disconnected : conn_in (up ++ close_asked ∷ disconnected ∷ []) ≡ conn.Closing
+  pub closing_fatal : conn_in (up ++ close_asked ∷ fatal_error ∷ []) ≡ conn.Closing
 
 -- ATTACHING, AND ANSWERS THAT ARE OWED
+
+-- a channel that is owed more answers than can be counted
+abbrev pub endlessly_owed : ClientChannel
+endlessly_owed = record new_channel { state = chan.Attaching; owed = 2 ^ 64 - 1 }
 
 pub record AnswersAreOwed : Type 0 where
   pub waits : sent_in (attach ∷ connect ∷ []) ≡ []
@@ -219,6 +265,27 @@ pub record AnswersAreOwed : Type 0 where
   pub unknown_answer : stands_in (up ++ attached 3 0 ∷ detached ∷ failed ∷ entry 1 ∷ []) ≡ None
   -- a FAILED connection fails a channel that was detaching
   pub all_fail : stands_in (attached_up ++ detach ∷ gets (frames.Error None 120) ∷ []) ≡ Some (chan.Failed, None)
+  -- a new link owes nothing, however the old one ended
+  pub new_link : stands_in (up ++ attach ∷ close_asked ∷ gets frames.Closed ∷ connect ∷ as_other ∷ attach ∷ attached 4 0 ∷ []) ≡ Some (chan.Attached, Some 4)
+  pub dropped_link : stands_in (attached_up ++ detach ∷ disconnected ∷ []) ≡ Some (chan.Detached, None)
+  pub silent_link : stands_in (attached_up ++ detach ∷ Ticked 25000 ∷ []) ≡ Some (chan.Detached, None)
+  pub suspended_at_once : sent_in (up ++ attach ∷ Ticked 10000 ∷ detach ∷ []) ≡ asks_new ∷ []
+  pub suspended_then : stands_in (up ++ attach ∷ Ticked 10000 ∷ detach ∷ []) ≡ Some (chan.Detached, None)
+  pub closing_at_once : stands_in (attached_up ++ close_asked ∷ detach ∷ []) ≡ Some (chan.Detached, None)
+  pub closing_quietly : sent_in (attached_up ++ close_asked ∷ detach ∷ []) ≡ asks_new ∷ frames.Close ∷ []
+  pub stays_detached : sent_in (attached_up ++ detach ∷ detached ∷ again) ≡ asks_new ∷ frames.Detach room ∷ []
+  pub stays_failed : stands_in (attached_up ++ fatal_error ∷ connect ∷ as_other ∷ []) ≡ Some (chan.Failed, None)
+  pub unasked_closing : sent_in (attached_up ++ close_asked ∷ detached ∷ []) ≡ asks_new ∷ frames.Close ∷ []
+  pub unasked_waits : stands_in (attached_up ++ close_asked ∷ detached ∷ attached 0 4 ∷ []) ≡ Some (chan.Attaching, Some 0)
+  pub at_place : sent_in (Told (AttachAt room (place 4)) 0 ∷ up) ≡ asks_from 4 ∷ []
+  -- several channels, in order of name; a frame changes its own alone
+  pub in_order : sent_in (attach ∷ attach_other ∷ up) ≡ frames.Attach other None ∷ asks_new ∷ []
+  pub one_alone : option_map (λ channel. channel.held) (at other (state_of (attach_other ∷ attached_up ++ gets (frames.Attached other (place 5) 0 None) ∷ entry 1 ∷ [])).channels)
+      ≡ Some (Some (place 5))
+  -- a count at its end is lowered no more
+  pub endless : (attached_got 0 (place 0) endlessly_owed).state ≡ chan.Attaching
+  pub endless_count : (attached_got 0 (place 0) endlessly_owed).owed ≡ 2 ^ 64 - 1
+  pub endless_error : (channel_after ErrorGot endlessly_owed).state ≡ chan.Attaching
 
 -- RUNS
 
@@ -262,6 +329,8 @@ pub record RunsGoOn : Type 0 where
   pub away : beginnings_in (attached_up ++ left_and_back) ≡ Some (Answered None false (place 3) true ∷ Answered None false (place 0) false ∷ [])
   pub away_once : beginnings_in (attached_up ++ left_and_back ++ again ++ attached 9 0 ∷ [])
       ≡ Some (Answered (Some (place 3)) false (place 9) false ∷ Answered None false (place 3) true ∷ Answered None false (place 0) false ∷ [])
+  pub got_after_moving : record_in (attached_up ++ entry 1 ∷ attached 6 4 ∷ entry 7 ∷ []) ≡ Some ((6, (Moved (Ours (place 1)) (place 6), 7 ∷ [])) ∷ (0, (Opened, 1 ∷ [])) ∷ [])
+  pub detaching : record_in (attached_up ++ detach ∷ entry 1 ∷ []) ≡ Some ((0, (Opened, [])) ∷ [])
 
 -- THE QUEUE
 
@@ -284,6 +353,12 @@ pub record QueueIsKept : Type 0 where
   pub dropped : (state_of (up ++ publish (codes "x") ∷ publish (codes "y") ∷ Told Die 0 ∷ [])).dropped ≡ 2
   pub begins_anew : sent_in (up ++ publish (codes "x") ∷ Told Die 0 ∷ connect ∷ connected_as (codes "c00000002") ∷ publish (codes "y") ∷ [])
       ≡ message 0 (codes "x") ∷ message 0 (codes "y") ∷ []
+  pub answers_in_order : (state_of (up ++ publish (codes "x") ∷ publish (codes "x") ∷ gets (frames.Ack 1 1) ∷ gets (frames.Nack 0 1 104) ∷ [])).answers ≡ Ack first_id 1 ∷ Nack first_id 0 104 ∷ []
+  pub acknowledged_by : (state_of (up ++ publish (codes "x") ∷ Unlinked 0 ∷ connect ∷ as_other ∷ gets (frames.Ack 0 1) ∷ [])).answers ≡ Ack (codes "c2") 0 ∷ []
+  pub dropped_twice : (state_of (up ++ publish (codes "x") ∷ die ∷ connect ∷ publish (codes "x") ∷ die ∷ [])).dropped ≡ 2
+  pub dropped_endlessly : (step die (record (state_of (publish (codes "x") ∷ [])) { dropped = 2 ^ 64 - 1 })).state.dropped ≡ 2 ^ 64 - 1
+  pub operations : sent_in (up ++ Told (Operate room (CounterInc (Made kinds.Counter (codes "a") 0) (pos 3) ∷ [])) 0 ∷ [])
+      ≡ frames.Object (sent_head 0) (record { op = CounterInc (Made kinds.Counter (codes "a") 0) (pos 3); serial = None } ∷ []) ∷ []
 
 -- TIME
 
@@ -310,6 +385,19 @@ pub record TimePasses : Type 0 where
   pub not_linked : stands_in (attach ∷ Ticked 10000 ∷ []) ≡ Some (chan.Attaching, None)
   pub late_answer : stands_in (up ++ attach ∷ Ticked 10000 ∷ attached 3 0 ∷ []) ≡ Some (chan.Suspended, None)
   pub asked_twice : stands_in (up ++ attach ∷ Ticked 10000 ∷ attach ∷ attached 3 0 ∷ []) ≡ Some (chan.Attaching, None)
+  pub connected_counts : conn_in (connect ∷ connected_at 30000 ∷ Ticked 54999 ∷ []) ≡ conn.Connected
+  pub connected_counts_then : conn_in (connect ∷ connected_at 30000 ∷ Ticked 55000 ∷ []) ≡ conn.Disconnected
+  pub commands_do_not : conn_in (up ++ Told (Publish room (item (codes "x") ∷ [])) 20000 ∷ Ticked 25000 ∷ []) ≡ conn.Disconnected
+  pub left_last : conn_in (up ++ Unlinked 5 ∷ connect ∷ connected_as first_id ∷ Unlinked 50 ∷ Ticked 120049 ∷ []) ≡ conn.Disconnected
+  pub left_connected : conn_in (up ++ Unlinked 5 ∷ Told Connect 50 ∷ Unlinked 60 ∷ Ticked 120005 ∷ []) ≡ conn.Suspended
+  pub no_more_suspended : conn_in (up ++ Unlinked 5 ∷ Ticked 120005 ∷ Told Connect 120006 ∷ as_other ∷ Unlinked 120007 ∷ Told Connect 120008 ∷ Unlinked 120009 ∷ []) ≡ conn.Disconnected
+  pub suspending_drops : drops (Ticked 120009) (Told Connect 9 ∷ []) ≡ true
+  pub one_at_a_time : stands_in (up ++ attach ∷ Ticked 25000 ∷ []) ≡ Some (chan.Attaching, None)
+  pub lost_link : stands_in (up ++ attach ∷ Unlinked 0 ∷ Ticked 10000 ∷ []) ≡ Some (chan.Attaching, None)
+  pub closing_link : stands_in (up ++ attach ∷ close_asked ∷ Ticked 10000 ∷ []) ≡ Some (chan.Attaching, None)
+  pub asked_again : stands_in (up ++ attach ∷ Unlinked 0 ∷ connect ∷ connected_at 9000 ∷ Ticked 18999 ∷ []) ≡ Some (chan.Attaching, None)
+  pub asked_again_late : stands_in (up ++ attach ∷ Unlinked 0 ∷ connect ∷ connected_at 9000 ∷ Ticked 19000 ∷ []) ≡ Some (chan.Suspended, None)
+  pub told_twice : stands_in (up ++ attach ∷ Told (Attach room) 5000 ∷ Ticked 10000 ∷ []) ≡ Some (chan.Suspended, None)
 
 -- MEMBERS
 
@@ -348,6 +436,12 @@ pub record MembersAreHeld : Type 0 where
   pub suspended : members_in (attached_up ++ a_enters ∷ Unlinked 5 ∷ Ticked 120005 ∷ []) ≡ Some (false, codes "a" ∷ [])
   pub gone : members_in (attached_up ++ a_enters ∷ detach ∷ detached ∷ []) ≡ Some (false, [])
   pub failing : members_in (attached_up ++ a_enters ∷ failed ∷ []) ≡ Some (false, [])
+  pub unasked : members_in (attached_up ++ a_enters ∷ attached 1 4 ∷ []) ≡ Some (true, [])
+  pub unasked_sync : members_in (attached_up ++ a_enters ∷ attached 1 5 ∷ []) ≡ Some (false, codes "a" ∷ [])
+  pub late_answer : members_in (attached_up ++ a_enters ∷ again ++ Ticked 10000 ∷ attached 1 4 ∷ []) ≡ Some (false, codes "a" ∷ [])
+  pub place_0 : members_in (attached_up ++ presence_entry 0 (member presence.Enter (codes "a") (codes "c2:0:0")) ∷ []) ≡ Some (true, [])
+  pub no_serial : members_in (attached_up ++ gets (frames.Presence (head_at None) (member presence.Enter (codes "a") (codes "c2:0:0") ∷ [])) ∷ []) ≡ Some (true, [])
+  pub skipping : members_in (attached_up ++ presence_entry 3 (member presence.Enter (codes "a") (codes "c2:0:0")) ∷ []) ≡ Some (true, codes "a" ∷ [])
 
 -- OWN MEMBERS
 
@@ -362,6 +456,14 @@ presence_sent msg one = frames.Presence (sent_head msg) (one ∷ [])
 
 abbrev pub b_and_a : List Input
 b_and_a = enters (codes "b") (codes "1") ∷ enters (codes "a") (codes "2") ∷ []
+
+-- of a client that got place 1 and sent one frame
+abbrev pub held_key : RecoveryKey
+held_key = record { key = first_key; next = 1; serials = (room, place 1) ∷ [] }
+
+-- with three serials left two own members enter, and enter again
+abbrev pub nearly_full : List Input
+nearly_full = Recovers (record held_key { next = MAX_MESSAGE_SERIAL - 3 }) ∷ attach ∷ up ++ attached 1 4 ∷ b_and_a ++ again ++ attached 1 4 ∷ []
 
 pub record OwnMembersEnter : Type 0 where
   pub enter : sent_in (attached_up ++ b_and_a)
@@ -387,6 +489,21 @@ pub record OwnMembersEnter : Type 0 where
   pub in_closing : sent_in (attached_up ++ enters (codes "a") (codes "2") ∷ gets (frames.Ack 0 1) ∷ again ++ Told Close 0 ∷ attached 0 4 ∷ [])
       ≡ asks_new ∷ presence_sent 0 (own_item presence.Enter (codes "a") (Some (codes "2"))) ∷ asks_from 0 ∷ frames.Close ∷ []
   pub queued_in_closing : length (state_of (attached_up ++ enters (codes "a") (codes "2") ∷ gets (frames.Ack 0 1) ∷ again ++ Told Close 0 ∷ attached 0 4 ∷ [])).queue.pending ≡ 1
+  pub not_the_last : sent_in (attached_up ++ enters (codes "a") (codes "2") ∷ detach ∷ attach ∷ attached 9 0 ∷ [])
+      ≡ asks_new ∷ presence_sent 0 (own_item presence.Enter (codes "a") (Some (codes "2"))) ∷ frames.Detach room ∷ asks_from 0 ∷ []
+  pub not_failed : sent_in (attached_up ++ enters (codes "a") (codes "2") ∷ failed ∷ attach ∷ attached 9 0 ∷ [])
+      ≡ asks_new ∷ presence_sent 0 (own_item presence.Enter (codes "a") (Some (codes "2"))) ∷ asks_new ∷ []
+  pub after_unasked : sent_in (attached_up ++ enters (codes "a") (codes "2") ∷ detached ∷ attached 0 4 ∷ [])
+      ≡ asks_new ∷ presence_sent 0 (own_item presence.Enter (codes "a") (Some (codes "2"))) ∷ asks_from 0 ∷ presence_sent 1 (own_item presence.Enter (codes "a") (Some (codes "2"))) ∷ []
+  -- one for which no serial is left is skipped, and a command that is refused makes none
+  pub skipped : sent_in nearly_full
+      ≡ asks_from 1 ∷ presence_sent (MAX_MESSAGE_SERIAL - 3) (own_item presence.Enter (codes "b") (Some (codes "1"))) ∷ presence_sent (MAX_MESSAGE_SERIAL - 2) (own_item presence.Enter (codes "a") (Some (codes "2")))
+      ∷ asks_from 1 ∷ presence_sent (MAX_MESSAGE_SERIAL - 3) (own_item presence.Enter (codes "b") (Some (codes "1"))) ∷ presence_sent (MAX_MESSAGE_SERIAL - 2) (own_item presence.Enter (codes "a") (Some (codes "2")))
+      ∷ presence_sent (MAX_MESSAGE_SERIAL - 1) (own_item presence.Enter (codes "a") (Some (codes "2"))) ∷ []
+  pub skipped_serial : (state_of nearly_full).queue.next ≡ MAX_MESSAGE_SERIAL
+  pub refused : sent_in (Recovers (record held_key { next = MAX_MESSAGE_SERIAL }) ∷ attach ∷ up ++ attached 1 4 ∷ enters (codes "a") (codes "2") ∷ Unlinked 0 ∷ connect ∷ as_other ∷ attached 1 4 ∷ [])
+      ≡ asks_from 1 ∷ asks_from 1 ∷ []
+  pub not_attached : sent_in (up ++ attach ∷ enters (codes "a") (codes "1") ∷ attached 0 0 ∷ []) ≡ asks_new ∷ []
 
 -- OBJECTS
 
@@ -446,14 +563,13 @@ pub record ObjectsAreHeld : Type 0 where
   pub collected : object_count (buried ++ Ticked 86400000 ∷ []) ≡ Some 1
   pub unlinked_too : object_count (buried ++ Unlinked 0 ∷ Ticked 86400000 ∷ []) ≡ Some 1
   pub waits : object_count (buried ++ again ++ attached 1 132 ∷ Ticked 86400000 ∷ []) ≡ Some 2
+  pub unasked : objects_in (synced ++ attached 1 4 ∷ []) ≡ Some (true, empty_root ∷ [])
+  pub page_early : objects_in (up ++ attach ∷ attached 1 128 ∷ again ++ object_page (codes "1") [] (counter_state 1 5 ∷ []) ∷ []) ≡ Some (false, empty_root ∷ [])
 
 -- RECOVERY KEYS
 
 abbrev pub key_of : List Input → Option RecoveryKey
 key_of inputs = recovery_key (state_of inputs)
-
-abbrev pub held_key : RecoveryKey
-held_key = record { key = first_key; next = 1; serials = (room, place 1) ∷ [] }
 
 pub record KeysRecover : Type 0 where
   pub none : key_of [] ≡ None
@@ -476,11 +592,18 @@ pub record KeysRecover : Type 0 where
   -- the connection's id is what stands before the first `!`, or all
   pub id : (state_of (Recovers (record { key = codes "ab!c!d"; next = 0; serials = [] }) ∷ [])).id ≡ Some (codes "ab")
   pub all : (state_of (Recovers (record { key = codes "ab"; next = 0; serials = [] }) ∷ [])).id ≡ Some (codes "ab")
+  pub key_held : (state_of (Recovers (record { key = codes "ab"; next = 0; serials = [] }) ∷ Recovers held_key ∷ [])).key ≡ Some (codes "ab")
+  pub held_alone : key_of (attached_up ++ entry 1 ∷ Told (Attach (codes "b")) 0 ∷ publish (codes "x") ∷ []) ≡ Some held_key
+  pub held_detaching : key_of (attached_up ++ entry 1 ∷ detach ∷ publish (codes "x") ∷ []) ≡ Some held_key
 
 -- REFUSALS
 
 abbrev pub suspended : List Input
 suspended = attached_up ++ Unlinked 5 ∷ Ticked 120005 ∷ []
+
+-- no serial is left
+abbrev pub full_queue : List Input
+full_queue = Recovers (record { key = codes "ab"; next = MAX_MESSAGE_SERIAL; serials = [] }) ∷ []
 
 pub record CommandsAreRefused : Type 0 where
   pub connect_twice : refusal Connect (state_of up) ≡ Some (WrongState (stands.Conn conn.Connected))
@@ -500,3 +623,47 @@ pub record CommandsAreRefused : Type 0 where
   pub enter_unlinked : refusal (Enter room (codes "a") (codes "x")) (state_of (attached_up ++ Unlinked 0 ∷ [])) ≡ None
   pub full : refusal (Publish room (item (codes "x") ∷ [])) (state_of (Recovers (record { key = codes "ab"; next = MAX_MESSAGE_SERIAL; serials = [] }) ∷ [])) ≡ Some (Full 0)
   pub close : refusal Close (state_of suspended) ≡ None
+  -- a command that is refused changes nothing
+  pub not_attached_at : stands_in (attached_up ++ Told (AttachAt room (place 7)) 0 ∷ []) ≡ Some (chan.Attached, Some 0)
+  pub not_attached : stands_in (up ++ close_asked ∷ attach ∷ []) ≡ None
+  pub not_queued : length (state_of (up ++ close_asked ∷ publish (codes "x") ∷ [])).queue.pending ≡ 0
+  pub detach_suspended : refusal (Detach room) (state_of suspended) ≡ None
+  pub enter_before_full : refusal (Enter room (codes "a") (codes "x")) (state_of full_queue) ≡ Some (WrongState (stands.Chan chan.Initialized))
+  pub operate_full : refusal (Operate room (CounterInc counter (pos 1) ∷ [])) (state_of full_queue) ≡ Some (Full 0)
+  pub attach_at_recovered : refusal (AttachAt room (place 2)) (state_of (Recovers held_key ∷ [])) ≡ Some (WrongState (stands.Chan chan.Initialized))
+  pub publish_closing : refusal (Publish room (item (codes "x") ∷ [])) (state_of (up ++ close_asked ∷ [])) ≡ Some (WrongState (stands.Conn conn.Closing))
+  pub publish_late : refusal (Publish room (item (codes "x") ∷ [])) (state_of (up ++ attach ∷ Ticked 10000 ∷ [])) ≡ Some (WrongState (stands.Chan chan.Suspended))
+
+-- WHAT IS SHOWN
+
+abbrev pub shown_client : List Input
+shown_client = attached_up ++ entry 1 ∷ again ++ attached 9 0 ∷ publish (codes "x") ∷ publish (codes "x") ∷ gets (frames.Ack 0 1) ∷ []
+
+abbrev pub bare_root_shown : ObjectState
+bare_root_shown = record { id = Root; sites = []; tombstone = false; created = true; body = empty_root }
+
+pub record ClientsAreShown : Type 0 where
+  -- segments in order, what is pending and what was acknowledged
+  pub one : findings_of (state_of shown_client)
+      ≡ record {
+        name = codes "A";
+        state = conn.Connected;
+        conn = Some first_id;
+        pending = 1;
+        dropped = 0;
+        answers = Ack first_id 0 ∷ [];
+        views = record {
+          name = room;
+          state = chan.Attached;
+          held = Some (place 9);
+          runs = record { segments = record { start = 0; cause = Opened; got = (1, Messages (item (codes "x") ∷ [])) ∷ [] } ∷ record { start = 9; cause = NotRetained (Ours (place 1)); got = [] } ∷ [] };
+          members_whole = true;
+          members = [];
+          objects_whole = true;
+          objects = bare_root_shown ∷ [];
+        } ∷ [];
+      }
+  -- channels in order of name, and what was dropped
+  pub names : map (λ view. view.name) (findings_of (state_of (attach_other ∷ attached_up))).views ≡ other ∷ room ∷ []
+  pub dropped : (findings_of (state_of (up ++ publish (codes "x") ∷ die ∷ []))).dropped ≡ 1
+  pub closed : (findings_of (state_of (up ++ publish (codes "x") ∷ die ∷ []))).conn ≡ None

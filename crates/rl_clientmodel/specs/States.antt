@@ -121,7 +121,7 @@ forgotten true state =
       queue = new_queue;
     }
 
--- the moments that count for giving it up
+-- when CONNECTED was last left, after a step that leaves it or not
 abbrev pub left_after : Bool → ℕ → Option ℕ → Option ℕ
 left_after leaves now earlier = if leaves then Some now else earlier
 

@@ -1,5 +1,5 @@
 //! Laws over the definitions alone. Each is a function that does nothing: its contract is the law.
-ghost use Rattle.rl_clientmodel.specs.Examples.{ConnectionsStand, AnswersAreOwed, RunsGoOn, QueueIsKept, TimePasses, MembersAreHeld, OwnMembersEnter, ObjectsAreHeld, KeysRecover, CommandsAreRefused};
+ghost use Rattle.rl_clientmodel.specs.Examples.{ConnectionsStand, AnswersAreOwed, RunsGoOn, QueueIsKept, TimePasses, MembersAreHeld, OwnMembersEnter, ObjectsAreHeld, KeysRecover, CommandsAreRefused, ClientsAreShown};
 
 /// Connecting, what a client brings then, closing, and the link that a step drops.
 #[tactic(auto, using(crate::proofs::Worked::connections_stand))]
@@ -31,7 +31,7 @@ pub fn time_passes()
     ensures { TimePasses }
 {}
 
-/// Members by entries and by pages, in each state of the channel.
+/// Members by entries and by pages, and in which states of the channel they come and go.
 #[tactic(auto, using(crate::proofs::Worked::members_are_held))]
 pub fn members_are_held()
     ensures { MembersAreHeld }
@@ -43,7 +43,7 @@ pub fn own_members_enter()
     ensures { OwnMembersEnter }
 {}
 
-/// Objects by entries and by pages, in each state of the channel.
+/// Objects by entries and by pages, in which states of the channel they come and go, and when tombstones do.
 #[tactic(auto, using(crate::proofs::Worked::objects_are_held))]
 pub fn objects_are_held()
     ensures { ObjectsAreHeld }
@@ -59,4 +59,10 @@ pub fn keys_recover()
 #[tactic(auto, using(crate::proofs::Worked::commands_are_refused))]
 pub fn commands_are_refused()
     ensures { CommandsAreRefused }
+{}
+
+/// What is shown of clients: segments and channels in order, what is pending, acknowledged and dropped.
+#[tactic(auto, using(crate::proofs::Worked::clients_are_shown))]
+pub fn clients_are_shown()
+    ensures { ClientsAreShown }
 {}

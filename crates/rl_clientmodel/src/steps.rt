@@ -9,7 +9,8 @@ pub enum ChannelStep {
     Moves {
         /// The event.
         event: ChanEvent,
-        /// Whether the connection is CONNECTED: then ATTACH and DETACH are sent at once.
+        /// Whether the connection is CONNECTED: then ATTACH and DETACH are sent at once. It says nothing of an event
+        /// that the connection itself is for its channels.
         connected: bool,
         /// The moment, in milliseconds.
         now: Moment,

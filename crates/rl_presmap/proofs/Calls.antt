@@ -1,5 +1,5 @@
 -- What the calls leave, from what their steps do.
-use Rattle.std.proofs.Common.{◌≡◌, ℕ, Bool, cond, List, ap, sym, subst, ◌∙◌}
+use Rattle.std.proofs.Common.{◌≡◌, ℕ, Bool, cond, List, [], ◌∷◌, ap, sym, subst, ◌∙◌}
 use Rattle.std.specs.Prelude.{Option}
 use Rattle.rl_types.specs.declared.frames.Cursor.{Cursor}
 use Rattle.rl_types.specs.declared.presence.PresenceItem.{PresenceItem}
@@ -7,7 +7,7 @@ use Rattle.rl_presmap.specs.declared.held.Held.{Held}
 use Rattle.rl_presmap.specs.declared.held.SyncState.{SyncState}
 use Rattle.rl_presmap.specs.declared.held.SyncState.TheVariants.{Closed, Opened, Numbered}
 use Rattle.rl_presmap.specs.Held.{PresenceMap, AreRising, IsSound, is_open}
-use Rattle.rl_presmap.specs.Steps.{with_item, with_items, all_residual, all_plain, goes_on, begun}
+use Rattle.rl_presmap.specs.Steps.{with_each, with_item, with_items, all_residual, all_plain, goes_on, begun}
 use Rattle.rl_presmap.proofs.Sound.{sound_item, sound_opened, sound_ended, sound_numbered, items_rising, begun_rising}
 
 abbrev pub known_as : List Held → SyncState → PresenceMap
@@ -21,6 +21,16 @@ pub applied_sound : (item : PresenceItem) (old kept new : List Held) (sync : Syn
 applied_sound item old kept new sync syncing same is_on step sound =
     let is : new ≡ with_item (is_open sync) item old = step ∙ ap (λ b. with_item b item kept) is_on ∙ ap (with_item (is_open sync) item) same in
     subst (λ (xs : List Held). IsSound xs sync) (sym is) (sound_item item old sync sound)
+
+each_sound : (sync : SyncState) (items : List PresenceItem) (held : List Held) → IsSound held sync → IsSound (with_each (is_open sync) items held) sync
+each_sound sync [] held sound = sound
+each_sound sync (item ∷ items) held sound = each_sound sync items (with_item (is_open sync) item held) (sound_item item held sync sound)
+
+pub all_sound : (items : List PresenceItem) (old kept new : List Held) (sync : SyncState) (syncing : Bool) → kept ≡ old → syncing ≡ is_open sync → new ≡ with_each syncing items kept
+    → IsSound old sync → IsSound new sync
+all_sound items old kept new sync syncing same is_on step sound =
+    let is : new ≡ with_each (is_open sync) items old = step ∙ ap (λ b. with_each b items kept) is_on ∙ ap (with_each (is_open sync) items) same in
+    subst (λ (xs : List Held). IsSound xs sync) (sym is) (each_sound sync items old sound)
 
 pub opened_sound : (old new : List Held) (sync : SyncState) → new ≡ all_residual old → IsSound old sync → IsSound new Opened
 opened_sound old new sync step sound = subst (λ (xs : List Held). IsSound xs Opened) (sym step) (sound_opened old sync sound)

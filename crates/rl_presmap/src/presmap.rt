@@ -10,7 +10,7 @@ use crate::ends::{all_leave, end};
 use crate::events::PresenceEvent;
 use crate::held::{Held, SyncState};
 use crate::ready::{Ready, all_ready};
-use crate::syncs::{take_each, begin, goes_on, open, take_all};
+use crate::syncs::{begin, goes_on, open, take_all, take_each};
 use crate::taking::take_up;
 use rl_ids::{Copied, List, NoMemory};
 use rl_types::{Cursor, PresenceItem};
