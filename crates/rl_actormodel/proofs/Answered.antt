@@ -1,6 +1,6 @@
 -- Each ATTACH and DETACH is answered, in order.
 use Rattle.std.specs.Prelude.{take, drop, option_to_list, if◌then◌else◌, ◌&&◌, ◌⊎◌, is_none, map}
-use Rattle.std.proofs.Common.{◌≡◌, ℕ, ◌≤◌, Bool, true, false, List, [], ◌∷◌, ◌++◌, length, Option, Some, None, refl, sym, ap, ◌∙◌, subst, arith, append_assoc, append-nil, inl, inr}
+use Rattle.std.proofs.Common.{◌≡◌, ℕ, Bool, true, false, List, [], ◌∷◌, ◌++◌, length, Option, Some, None, refl, sym, ap, ◌∙◌, subst, append_assoc, append-nil, inl, inr}
 use Rattle.rl_types.specs.declared.messages.Body.{Body}
 use Rattle.rl_types.specs.declared.messages.Body.TheVariants.{Messages, Presence, Objects}
 use Rattle.rl_types.specs.declared.messages.Entry.{Entry}
@@ -10,6 +10,7 @@ use Rattle.rl_types.specs.declared.frames.Frame.TheVariants as frames
 use Rattle.rl_runs.specs.declared.commands.Hello.{Hello}
 use Rattle.rl_events.specs.declared.channel.Outcome.{Outcome}
 use Rattle.rl_events.specs.declared.channel.Outcome.TheVariants.{Taken, Refused}
+use Rattle.rl_events.specs.declared.channel.Verdict.{Verdict}
 use Rattle.rl_events.specs.declared.channel.ChannelEvent.TheVariants as events
 use Rattle.rl_events.specs.declared.channel.ChannelReply.{ChannelReply}
 use Rattle.rl_events.specs.declared.channel.ChannelReply.TheVariants as channel
@@ -33,17 +34,17 @@ use Rattle.rl_actormodel.specs.Ends.{farewell, lost_wish, last_wish, ended_by, o
 use Rattle.rl_actormodel.specs.Wishes.{wanted, page_call, poll_call}
 use Rattle.rl_actormodel.specs.Takes.{Came, A, Unknown, Bad, attach_wish, begin_wish, close_wish, detached, publish, take_any, took}
 use Rattle.rl_actormodel.specs.Takes as takes
-use Rattle.rl_actormodel.specs.Replies.{Opening, Opens, Limited, Unopened, opening, Standing, Passed, Gone, Holds, standing, Beginning, Overtaken, Missing, Knows, Above, Below, Goes, beginning, holder_in, number_in, Joining, joining_in, outcome_in, Reading, Behind, Unread, reading, channel_reply}
+use Rattle.rl_actormodel.specs.Replies.{Opening, Opens, Limited, Unopened, opening, Standing, Passed, Gone, Holds, Unsaid, standing, Beginning, Overtaken, Missing, Knows, Above, Below, Goes, Unbegun, beginning, Resuming, Back, NotKnown, Unresumed, resuming, Numbering, Has, HasNone, Unnumbered, numbering, Joining, joining_in, verdict_in, Reading, Behind, Unread, reading, channel_reply}
 use Rattle.rl_actormodel.specs.Replies as views
 use Rattle.rl_actormodel.specs.Connects.{resumed_by, opened_by, if_held, closed}
 use Rattle.rl_actormodel.specs.Attaches.{attach_at, joined_by}
-use Rattle.rl_actormodel.specs.Publishes.{settled, put_wish, begun_by, put_at}
+use Rattle.rl_actormodel.specs.Publishes.{settled, put_wish, begun_by, put_at, put_by}
 use Rattle.rl_actormodel.specs.Pagings.{paged, page_by, ends_here, ended_here}
 use Rattle.rl_actormodel.specs.Reads.{entry_head, body_frame, entry_frame, moved_on, read_into, read_by, on_session, replied, answered, answered_at}
 use Rattle.rl_actormodel.specs.Rests.{is_idle, is_quiet, rested}
 use Rattle.rl_actormodel.specs.Inputs.{Input, Took, Absorbed, Rested, Ended, Gave, gave, step, after, given, taken}
 use Rattle.rl_actormodel.specs.Conditions.{is_reply_to, IsCalled, IsAllowed}
-use Rattle.rl_actormodel.specs.Laws.{Ask, ToAttach, ToDetach, ask_of, ask_in, asks, answer_of, answers, owed, AreAnswered, AnsweredInOrder}
+use Rattle.rl_actormodel.specs.Laws.{Ask, ToAttach, ToDetach, ask_of, ask_in, asks, answer_of, answers, owed, is_one_attach, AreAnswered, AnsweredInOrder}
 use Rattle.rl_actormodel.proofs.Silent.{take_drop}
 
 -- what one input does: these frames are put out, and with them what is in hand after it makes up what was in hand and what
@@ -104,14 +105,15 @@ finishes why s = record {
   quiet = λ n w h. owed_last why s.holder;
 }
 
-resumed_keeps : (key : List ℕ) (v : Option Holder) (now : ℕ) (s : State) → Keeps [] [] s (resumed_by key v now s)
-resumed_keeps key (Some holder) now s = goes (_ ∷ []) refl refl refl
-resumed_keeps key None now s = same refl refl refl
+resumed_keeps : (key : List ℕ) (v : Resuming) (now : ℕ) (s : State) → owed s.wish ≡ [] → Keeps [] [] s (resumed_by key v now s)
+resumed_keeps key (Back holder) now s o = goes (_ ∷ []) refl refl refl
+resumed_keeps key NotKnown now s o = same refl refl refl
+resumed_keeps key Unresumed now s o = same refl refl o
 
-opened_keeps : (v : Opening) (now : ℕ) (s : State) → Keeps [] [] s (opened_by v now s)
-opened_keeps (Opens holder key) now s = goes (_ ∷ []) refl refl refl
-opened_keeps (Limited count given) now s = finishes (ends.ConnectionLimit count given) s
-opened_keeps Unopened now s = same refl refl refl
+opened_keeps : (v : Opening) (now : ℕ) (s : State) → owed s.wish ≡ [] → Keeps [] [] s (opened_by v now s)
+opened_keeps (Opens holder key) now s o = goes (_ ∷ []) refl refl refl
+opened_keeps (Limited count given) now s o = finishes (ends.ConnectionLimit count given) s
+opened_keeps Unopened now s o = same refl refl o
 
 -- CLOSED, and the end
 closes : (now : ℕ) (s : State) → Keeps [] [] s (closed now s)
@@ -123,14 +125,16 @@ closes now s = record {
   quiet = λ n w h. refl;
 }
 
-held_keeps : (holder : Holder) (v : Standing) (next : State → State) (s : State) → Keeps [] [] s (next s) → Keeps [] [] s (if_held holder v next s)
-held_keeps holder (Passed newer) next s k = finishes (ends.Superseded holder.generation newer) s
-held_keeps holder Gone next s k = finishes ends.Forgotten s
-held_keeps holder Holds next s k = k
+held_keeps : (holder : Holder) (v : Standing) (next : State → State) (s : State) → owed s.wish ≡ [] → Keeps [] [] s (next s) → Keeps [] [] s (if_held holder v next s)
+held_keeps holder (Passed newer) next s o k = finishes (ends.Superseded holder.generation newer) s
+held_keeps holder Gone next s o k = finishes ends.Forgotten s
+held_keeps holder Holds next s o k = k
+held_keeps holder Unsaid next s o k = same refl refl o
 
-attach_keeps : (asked : Asked) (v : Option ℕ) (now : ℕ) (s : State) → Keeps (ToAttach asked.channel ∷ []) [] s (attach_at asked v now s)
-attach_keeps asked (Some number) now s = same refl refl refl
-attach_keeps asked None now s = goes (_ ∷ []) refl refl refl
+attach_keeps : (asked : Asked) (v : Numbering) (now : ℕ) (s : State) → owed s.wish ≡ ToAttach asked.channel ∷ [] → Keeps (ToAttach asked.channel ∷ []) [] s (attach_at asked v now s)
+attach_keeps asked (Has number) now s o = same refl refl refl
+attach_keeps asked HasNone now s o = goes (_ ∷ []) refl refl refl
+attach_keeps asked Unnumbered now s o = same refl refl o
 
 joined_keeps : (asked : Asked) (number : ℕ) (j : Joining) (now : ℕ) (s : State) → Keeps (ToAttach asked.channel ∷ []) [] s (joined_by asked number (Some j) now s)
 joined_keeps asked number j now s = goes (_ ∷ []) refl refl refl
@@ -144,17 +148,23 @@ owed_put : (p : Publish) (holder : Holder) (v : Option ℕ) → owed (put_wish p
 owed_put p holder None = refl
 owed_put p holder (Some number) = refl
 
-begun_keeps : (p : Publish) (holder : Holder) (v : Beginning) (now : ℕ) (s : State) → Keeps [] [] s (begun_by p holder v now s)
-begun_keeps p holder (Overtaken newer) now s = finishes (ends.Superseded holder.generation newer) s
-begun_keeps p holder Missing now s = finishes ends.Forgotten s
-begun_keeps p holder (Knows outcome) now s = settled_keeps p (Some outcome) now s
-begun_keeps p holder (Above got expected) now s = finishes (ends.SerialGap got expected) s
-begun_keeps p holder (Below got expected) now s = finishes (ends.SerialOld got expected) s
-begun_keeps p holder Goes now s = same refl refl (owed_put p holder (at p.channel s.numbers))
+begun_keeps : (p : Publish) (holder : Holder) (v : Beginning) (now : ℕ) (s : State) → owed s.wish ≡ [] → Keeps [] [] s (begun_by p holder v now s)
+begun_keeps p holder (Overtaken newer) now s o = finishes (ends.Superseded holder.generation newer) s
+begun_keeps p holder Missing now s o = finishes ends.Forgotten s
+begun_keeps p holder (Knows outcome) now s o = settled_keeps p (Some outcome) now s
+begun_keeps p holder (Above got expected) now s o = finishes (ends.SerialGap got expected) s
+begun_keeps p holder (Below got expected) now s o = finishes (ends.SerialOld got expected) s
+begun_keeps p holder Goes now s o = same refl refl (owed_put p holder (at p.channel s.numbers))
+begun_keeps p holder Unbegun now s o = same refl refl o
 
-put_keeps : (p : Publish) (holder : Holder) (v : Option ℕ) (s : State) → Keeps [] [] s (put_at p holder v s)
-put_keeps p holder (Some number) s = same refl refl refl
-put_keeps p holder None s = same refl refl refl
+put_keeps : (p : Publish) (holder : Holder) (v : Numbering) (s : State) → owed s.wish ≡ [] → Keeps [] [] s (put_at p holder v s)
+put_keeps p holder (Has number) s o = same refl refl refl
+put_keeps p holder HasNone s o = same refl refl refl
+put_keeps p holder Unnumbered s o = same refl refl o
+
+verdict_keeps : (p : Publish) (holder : Holder) (v : Option Verdict) (s : State) → owed s.wish ≡ [] → Keeps [] [] s (put_by p holder v s)
+verdict_keeps p holder (Some verdict) s o = same refl refl refl
+verdict_keeps p holder None s o = same refl refl o
 
 -- the reply to a Join says where it begins
 abbrev IsKnown : Wish → Reply → Type 0
@@ -163,18 +173,18 @@ IsKnown wish reply = Unit {0}
 
 replied_keeps : (wish : Wish) (reply : Reply) (now : ℕ) (s : State) → s.wish ≡ wish → IsKnown wish reply → Keeps (owed wish) [] s (replied wish reply now s)
 replied_keeps wishes.Nothing reply now s e k = same refl refl (ap owed e)
-replied_keeps (wishes.Resume key) reply now s e k = resumed_keeps key (holder_in reply) now s
-replied_keeps wishes.Open reply now s e k = opened_keeps (opening reply) now s
+replied_keeps (wishes.Resume key) reply now s e k = resumed_keeps key (resuming reply) now s (ap owed e)
+replied_keeps wishes.Open reply now s e k = opened_keeps (opening reply) now s (ap owed e)
 replied_keeps (wishes.Lost holder) reply now s e k = same refl refl refl
-replied_keeps (wishes.Close holder) reply now s e k = held_keeps holder (standing reply) (closed now) s (closes now s)
-replied_keeps (wishes.AskToAttach asked) reply now s e k = attach_keeps asked (number_in reply) now s
+replied_keeps (wishes.Close holder) reply now s e k = held_keeps holder (standing reply) (closed now) s (ap owed e) (closes now s)
+replied_keeps (wishes.AskToAttach asked) reply now s e k = attach_keeps asked (numbering reply) now s (ap owed e)
 replied_keeps (wishes.Join asked number) reply now s e k =
     let P = λ (found : Option Joining). Keeps (ToAttach asked.channel ∷ []) [] s (joined_by asked number found now s) in
     subst P (sym k.1) (joined_keeps asked number k.0 now s)
-replied_keeps (wishes.Begin p holder) reply now s e k = begun_keeps p holder (beginning reply) now s
-replied_keeps (wishes.AskToPut p holder) reply now s e k = put_keeps p holder (number_in reply) s
-replied_keeps (wishes.Put p holder number) reply now s e k = same refl refl refl
-replied_keeps (wishes.Finish p holder outcome) reply now s e k = held_keeps holder (standing reply) (settled p outcome now) s (settled_keeps p outcome now s)
+replied_keeps (wishes.Begin p holder) reply now s e k = begun_keeps p holder (beginning reply) now s (ap owed e)
+replied_keeps (wishes.AskToPut p holder) reply now s e k = put_keeps p holder (numbering reply) s (ap owed e)
+replied_keeps (wishes.Put p holder number) reply now s e k = verdict_keeps p holder (verdict_in reply) s (ap owed e)
+replied_keeps (wishes.Finish p holder outcome) reply now s e k = held_keeps holder (standing reply) (settled p outcome now) s (ap owed e) (settled_keeps p outcome now s)
 
 -- pages and runs
 answers_append : (xs ys : List Frame) → answers (xs ++ ys) ≡ answers xs ++ answers ys
@@ -477,18 +487,18 @@ gave_kept {s = s} tk a = record {
   few = a.few;
 }
 
-owed_few : (w : Wish) → length (owed w) ≤ 1
-owed_few wishes.Nothing = omega arith
-owed_few (wishes.Resume key) = omega arith
-owed_few wishes.Open = omega arith
-owed_few (wishes.Lost holder) = omega arith
-owed_few (wishes.Close holder) = omega arith
-owed_few (wishes.AskToAttach asked) = omega arith
-owed_few (wishes.Join asked number) = omega arith
-owed_few (wishes.Begin p holder) = omega arith
-owed_few (wishes.AskToPut p holder) = omega arith
-owed_few (wishes.Put p holder number) = omega arith
-owed_few (wishes.Finish p holder outcome) = omega arith
+owed_few : (w : Wish) → is_one_attach (owed w) ≡ true
+owed_few wishes.Nothing = refl
+owed_few (wishes.Resume key) = refl
+owed_few wishes.Open = refl
+owed_few (wishes.Lost holder) = refl
+owed_few (wishes.Close holder) = refl
+owed_few (wishes.AskToAttach asked) = refl
+owed_few (wishes.Join asked number) = refl
+owed_few (wishes.Begin p holder) = refl
+owed_few (wishes.AskToPut p holder) = refl
+owed_few (wishes.Put p holder number) = refl
+owed_few (wishes.Finish p holder outcome) = refl
 
 -- an end from outside leaves what was owed
 ended_kept : (e : Option End) (why : End) {inputs : List Input} {s : State} (tk : List Frame) → s.ended ≡ e → AreAnswered inputs s (tk ++ s.waiting)
@@ -519,7 +529,7 @@ both_free false c h = h
 input_kept : (input : Input) {inputs : List Input} {s : State} (tk : List Frame) → IsAllowed input s → AreAnswered inputs s (tk ++ s.waiting)
     → AreAnswered (input ∷ inputs) (step input s) ((tk ++ given input s) ++ (step input s).waiting)
 input_kept (Took got now) {s = s} tk h a =
-    let f = free_is s.ended s.wish (both_free (is_free s) (has_room s) h) in
+    let f = free_is s.ended s.wish (both_free (is_free s) (has_room s) h.0) in
     let o : owed s.wish ≡ [] = ap owed f.1 in
     let l : a.left ≡ [] = a.none f.0 in
     let P = λ (ow : List Ask). Keeps ow (ask_in got) s (took got now s) in
@@ -543,7 +553,7 @@ answered_in_order hello start [] h = record {
   all = append-nil _ ∙ first_owed hello.resume;
   none = λ e. refl;
   quiet = λ w e. cc;
-  few = omega arith;
+  few = refl;
 }
 answered_in_order hello start (input ∷ before) h =
     input_kept input (taken before (begun hello start)) h.0 (answered_in_order hello start before h.1)

@@ -1,5 +1,6 @@
 pub mod Answered
 pub mod Computed
+pub mod Connected
 pub mod Named
 pub mod Outbox
 pub mod Positions

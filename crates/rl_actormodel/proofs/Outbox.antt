@@ -15,6 +15,7 @@ use Rattle.rl_types.specs.declared.frames.Frame.TheVariants as frames
 use Rattle.rl_runs.specs.declared.commands.Hello.{Hello}
 use Rattle.rl_events.specs.declared.channel.Outcome.{Outcome}
 use Rattle.rl_events.specs.declared.channel.Outcome.TheVariants.{Taken, Refused}
+use Rattle.rl_events.specs.declared.channel.Verdict.{Verdict}
 use Rattle.rl_events.specs.declared.channel.ChannelEvent.{ChannelEvent}
 use Rattle.rl_events.specs.declared.channel.ChannelEvent.TheVariants as events
 use Rattle.rl_events.specs.declared.channel.ChannelReply.{ChannelReply}
@@ -40,11 +41,11 @@ use Rattle.rl_actormodel.specs.Ends.{farewell, ended_by, over_at}
 use Rattle.rl_actormodel.specs.Wishes.{wanted, call_of, page_of, read_of, page_call, poll_call}
 use Rattle.rl_actormodel.specs.Takes.{Came, A, Unknown, Bad, publish, took}
 use Rattle.rl_actormodel.specs.Takes as takes
-use Rattle.rl_actormodel.specs.Replies.{Opening, Opens, Limited, Unopened, opening, Standing, Passed, Gone, Holds, standing, Beginning, Overtaken, Missing, Knows, Above, Below, Goes, beginning, holder_in, number_in, Joining, joining_in, outcome_in, Reading, Behind, Unread, reading, channel_reply}
+use Rattle.rl_actormodel.specs.Replies.{Opening, Opens, Limited, Unopened, opening, Standing, Passed, Gone, Holds, Unsaid, standing, Beginning, Overtaken, Missing, Knows, Above, Below, Goes, Unbegun, beginning, Resuming, Back, NotKnown, Unresumed, resuming, Numbering, Has, HasNone, Unnumbered, numbering, Joining, joining_in, verdict_in, Reading, Behind, Unread, reading, channel_reply}
 use Rattle.rl_actormodel.specs.Replies as views
 use Rattle.rl_actormodel.specs.Connects.{resumed_by, opened_by, if_held, closed}
 use Rattle.rl_actormodel.specs.Attaches.{attach_at, joined_by}
-use Rattle.rl_actormodel.specs.Publishes.{settled, begun_by, put_at}
+use Rattle.rl_actormodel.specs.Publishes.{settled, begun_by, put_at, put_by}
 use Rattle.rl_actormodel.specs.Pagings.{page_by, ends_here}
 use Rattle.rl_actormodel.specs.Reads.{entry_frame, moved_on, read_into, read_by, on_session, replied, answered, answered_at}
 use Rattle.rl_actormodel.specs.Rests.{is_empty, is_idle, is_quiet}
@@ -102,14 +103,15 @@ ended_fits why s h = ends_fit why s (omega (arith, h))
 stays : (s t : State) → t.waiting ≡ s.waiting → length s.waiting ≤ 224 → Fits t
 stays s t w h = record { few = stay t.ended (is_nothing t.wish) (length t.waiting) (let l = ap (λ (x : List Frame). length x) w in omega (arith, h, l)) }
 
-resumed_fits : (key : List ℕ) (v : Option Holder) (now : ℕ) (s : State) → length s.waiting ≤ 224 → Fits (resumed_by key v now s)
-resumed_fits key (Some holder) now s h = record { few = one _ s.ended s.waiting h }
-resumed_fits key None now s h = stays s _ refl h
+resumed_fits : (key : List ℕ) (v : Resuming) (now : ℕ) (s : State) → length s.waiting ≤ 224 → Fits (resumed_by key v now s)
+resumed_fits key (Back holder) now s h = record { few = one _ s.ended s.waiting h }
+resumed_fits key NotKnown now s h = stays s _ refl h
+resumed_fits key Unresumed now s h = stays s s refl h
 
 opened_fits : (v : Opening) (now : ℕ) (s : State) → length s.waiting ≤ 224 → Fits (opened_by v now s)
 opened_fits (Opens holder key) now s h = record { few = one _ s.ended s.waiting h }
 opened_fits (Limited count given) now s h = ended_fits (ends.ConnectionLimit count given) s h
-opened_fits Unopened now s h = stays s _ refl h
+opened_fits Unopened now s h = stays s s refl h
 
 closed_fits : (now : ℕ) (s : State) → length s.waiting ≤ 224 → Fits (closed now s)
 closed_fits now s h = ends_fit ends.Closed (put frames.Closed now s) (let l = length-append s.waiting (frames.Closed ∷ []) in omega (arith, h, l))
@@ -118,13 +120,15 @@ held_fits : (holder : Holder) (v : Standing) (next : State → State) (s : State
 held_fits holder (Passed newer) next s h f = ended_fits (ends.Superseded holder.generation newer) s h
 held_fits holder Gone next s h f = ended_fits ends.Forgotten s h
 held_fits holder Holds next s h f = f
+held_fits holder Unsaid next s h f = stays s s refl h
 
-attach_fits : (asked : Asked) (v : Option ℕ) (now : ℕ) (s : State) → length s.waiting ≤ 224 → Fits (attach_at asked v now s)
-attach_fits asked (Some number) now s h = stays s _ refl h
-attach_fits asked None now s h = record { few = one _ s.ended s.waiting h }
+attach_fits : (asked : Asked) (v : Numbering) (now : ℕ) (s : State) → length s.waiting ≤ 224 → Fits (attach_at asked v now s)
+attach_fits asked (Has number) now s h = stays s _ refl h
+attach_fits asked HasNone now s h = record { few = one _ s.ended s.waiting h }
+attach_fits asked Unnumbered now s h = stays s s refl h
 
 joined_fits : (asked : Asked) (number : ℕ) (v : Option Joining) (now : ℕ) (s : State) → length s.waiting ≤ 224 → Fits (joined_by asked number v now s)
-joined_fits asked number None now s h = stays s _ refl h
+joined_fits asked number None now s h = stays s s refl h
 joined_fits asked number (Some j) now s h = record { few = one _ s.ended s.waiting h }
 
 settled_fits : (p : Publish) (v : Option Outcome) (now : ℕ) (s : State) → length s.waiting ≤ 224 → Fits (settled p v now s)
@@ -139,22 +143,28 @@ begun_fits p holder (Knows outcome) now s h = settled_fits p (Some outcome) now 
 begun_fits p holder (Above got expected) now s h = ended_fits (ends.SerialGap got expected) s h
 begun_fits p holder (Below got expected) now s h = ended_fits (ends.SerialOld got expected) s h
 begun_fits p holder Goes now s h = stays s _ refl h
+begun_fits p holder Unbegun now s h = stays s s refl h
 
-put_fits : (p : Publish) (holder : Holder) (v : Option ℕ) (s : State) → length s.waiting ≤ 224 → Fits (put_at p holder v s)
-put_fits p holder (Some number) s h = stays s _ refl h
-put_fits p holder None s h = stays s _ refl h
+put_fits : (p : Publish) (holder : Holder) (v : Numbering) (s : State) → length s.waiting ≤ 224 → Fits (put_at p holder v s)
+put_fits p holder (Has number) s h = stays s _ refl h
+put_fits p holder HasNone s h = stays s _ refl h
+put_fits p holder Unnumbered s h = stays s s refl h
+
+verdict_fits : (p : Publish) (holder : Holder) (v : Option Verdict) (s : State) → length s.waiting ≤ 224 → Fits (put_by p holder v s)
+verdict_fits p holder (Some verdict) s h = stays s _ refl h
+verdict_fits p holder None s h = stays s s refl h
 
 replied_fits : (wish : Wish) (reply : Reply) (now : ℕ) (s : State) → length s.waiting ≤ 224 → Fits (replied wish reply now s)
 replied_fits wishes.Nothing reply now s h = stays s _ refl h
-replied_fits (wishes.Resume key) reply now s h = resumed_fits key (holder_in reply) now s h
+replied_fits (wishes.Resume key) reply now s h = resumed_fits key (resuming reply) now s h
 replied_fits wishes.Open reply now s h = opened_fits (opening reply) now s h
 replied_fits (wishes.Lost holder) reply now s h = stays s _ refl h
 replied_fits (wishes.Close holder) reply now s h = held_fits holder (standing reply) (closed now) s h (closed_fits now s h)
-replied_fits (wishes.AskToAttach asked) reply now s h = attach_fits asked (number_in reply) now s h
+replied_fits (wishes.AskToAttach asked) reply now s h = attach_fits asked (numbering reply) now s h
 replied_fits (wishes.Join asked number) reply now s h = joined_fits asked number (joining_in reply) now s h
 replied_fits (wishes.Begin p holder) reply now s h = begun_fits p holder (beginning reply) now s h
-replied_fits (wishes.AskToPut p holder) reply now s h = put_fits p holder (number_in reply) s h
-replied_fits (wishes.Put p holder number) reply now s h = stays s _ refl h
+replied_fits (wishes.AskToPut p holder) reply now s h = put_fits p holder (numbering reply) s h
+replied_fits (wishes.Put p holder number) reply now s h = verdict_fits p holder (verdict_in reply) s h
 replied_fits (wishes.Finish p holder outcome) reply now s h = held_fits holder (standing reply) (settled p outcome now) s h (settled_fits p outcome now s h)
 
 -- PAGES AND READS
@@ -381,8 +391,8 @@ fewer None false m n l h = omega arith
 
 input_fits : (input : Input) (s : State) → IsAllowed input s → Fits s → Fits (step input s)
 input_fits (Took came now) s a f =
-    let free = both_free (is_free s) (has_room s) a in
-    let room = second (is_free s) (has_room s) a in
+    let free = both_free (is_free s) (has_room s) a.0 in
+    let room = second (is_free s) (has_room s) a.0 in
     took_fits came now s (nothing s free) (room_is (length s.waiting) room)
   where
     second : (b c : Bool) → (b && c) ≡ true → c ≡ true

@@ -14,6 +14,7 @@ use Rattle.rl_types.specs.declared.frames.Frame.TheVariants as frames
 use Rattle.rl_runs.specs.declared.commands.Hello.{Hello}
 use Rattle.rl_events.specs.declared.channel.Outcome.{Outcome}
 use Rattle.rl_events.specs.declared.channel.Outcome.TheVariants.{Taken, Refused}
+use Rattle.rl_events.specs.declared.channel.Verdict.{Verdict}
 use Rattle.rl_events.specs.declared.channel.ChannelEvent.{ChannelEvent}
 use Rattle.rl_events.specs.declared.channel.ChannelEvent.TheVariants as events
 use Rattle.rl_events.specs.declared.channel.ChannelReply.{ChannelReply}
@@ -40,11 +41,11 @@ use Rattle.rl_actormodel.specs.Ends.{lost_wish, last_wish, ended_by, over_at}
 use Rattle.rl_actormodel.specs.Wishes.{wanted, call_of, page_of, read_of, page_call, poll_call}
 use Rattle.rl_actormodel.specs.Takes.{Came, A, Unknown, Bad, attach_wish, begin_wish, close_wish, publish, took}
 use Rattle.rl_actormodel.specs.Takes as takes
-use Rattle.rl_actormodel.specs.Replies.{Opening, Opens, Limited, Unopened, opening, Standing, Passed, Gone, Holds, standing, Beginning, Overtaken, Missing, Knows, Above, Below, Goes, beginning, holder_in, number_in, Joining, joining_in, outcome_in, Reading, Behind, Unread, reading, channel_reply}
+use Rattle.rl_actormodel.specs.Replies.{Opening, Opens, Limited, Unopened, opening, Standing, Passed, Gone, Holds, Unsaid, standing, Beginning, Overtaken, Missing, Knows, Above, Below, Goes, Unbegun, beginning, Resuming, Back, NotKnown, Unresumed, resuming, Numbering, Has, HasNone, Unnumbered, numbering, Joining, joining_in, verdict_in, Reading, Behind, Unread, reading, channel_reply}
 use Rattle.rl_actormodel.specs.Replies as views
 use Rattle.rl_actormodel.specs.Connects.{resumed_by, opened_by, if_held, closed}
 use Rattle.rl_actormodel.specs.Attaches.{attach_at, joined_by, new_session, next_sequence}
-use Rattle.rl_actormodel.specs.Publishes.{settled, put_wish, begun_by, put_at}
+use Rattle.rl_actormodel.specs.Publishes.{settled, put_wish, begun_by, put_at, put_by}
 use Rattle.rl_actormodel.specs.Pagings.{paged, page_by, ends_here, ended_here}
 use Rattle.rl_actormodel.specs.Reads.{entry_frame, moved_on, read_into, read_by, on_session, replied, answered, answered_at}
 use Rattle.rl_actormodel.specs.Rests.{is_idle, is_quiet}
@@ -111,22 +112,24 @@ last_named name_of ends.NoMemory holder = lost_named name_of holder
 ending : (name_of : ℕ → List ℕ) (why : End) (s : State) → Leaves name_of s (ended_by why s)
 ending name_of why s = leaves refl refl (last_named name_of why s.holder)
 
-resuming : (name_of : ℕ → List ℕ) (key : List ℕ) (v : Option Holder) (now : ℕ) (s : State) → Leaves name_of s (resumed_by key v now s)
-resuming name_of key (Some holder) now s = leaves refl refl tt
-resuming name_of key None now s = leaves refl refl tt
+resuming_leaves : (name_of : ℕ → List ℕ) (key : List ℕ) (v : Resuming) (now : ℕ) (s : State) → IsWishNamed name_of s.wish → Leaves name_of s (resumed_by key v now s)
+resuming_leaves name_of key (Back holder) now s w = leaves refl refl tt
+resuming_leaves name_of key NotKnown now s w = leaves refl refl tt
+resuming_leaves name_of key Unresumed now s w = leaves refl refl w
 
-opening_leaves : (name_of : ℕ → List ℕ) (v : Opening) (now : ℕ) (s : State) → Leaves name_of s (opened_by v now s)
-opening_leaves name_of (Opens holder key) now s = leaves refl refl tt
-opening_leaves name_of (Limited count given) now s = ending name_of (ends.ConnectionLimit count given) s
-opening_leaves name_of Unopened now s = leaves refl refl tt
+opening_leaves : (name_of : ℕ → List ℕ) (v : Opening) (now : ℕ) (s : State) → IsWishNamed name_of s.wish → Leaves name_of s (opened_by v now s)
+opening_leaves name_of (Opens holder key) now s w = leaves refl refl tt
+opening_leaves name_of (Limited count given) now s w = ending name_of (ends.ConnectionLimit count given) s
+opening_leaves name_of Unopened now s w = leaves refl refl w
 
 closing : (name_of : ℕ → List ℕ) (now : ℕ) (s : State) → Leaves name_of s (closed now s)
 closing name_of now s = leaves refl refl tt
 
-holding : (name_of : ℕ → List ℕ) (holder : Holder) (v : Standing) (next : State → State) (s : State) → Leaves name_of s (next s) → Leaves name_of s (if_held holder v next s)
-holding name_of holder (Passed newer) next s l = ending name_of (ends.Superseded holder.generation newer) s
-holding name_of holder Gone next s l = ending name_of ends.Forgotten s
-holding name_of holder Holds next s l = l
+holding : (name_of : ℕ → List ℕ) (holder : Holder) (v : Standing) (next : State → State) (s : State) → IsWishNamed name_of s.wish → Leaves name_of s (next s) → Leaves name_of s (if_held holder v next s)
+holding name_of holder (Passed newer) next s w l = ending name_of (ends.Superseded holder.generation newer) s
+holding name_of holder Gone next s w l = ending name_of ends.Forgotten s
+holding name_of holder Holds next s w l = l
+holding name_of holder Unsaid next s w l = leaves refl refl w
 
 settling : (name_of : ℕ → List ℕ) (p : Publish) (v : Option Outcome) (now : ℕ) (s : State) → Leaves name_of s (settled p v now s)
 settling name_of p None now s = leaves refl refl tt
@@ -137,13 +140,18 @@ put_named : (name_of : ℕ → List ℕ) (p : Publish) (holder : Holder) (v : Op
 put_named name_of p holder None = tt
 put_named name_of p holder (Some number) = tt
 
-beginning_leaves : (name_of : ℕ → List ℕ) (p : Publish) (holder : Holder) (v : Beginning) (now : ℕ) (s : State) → Leaves name_of s (begun_by p holder v now s)
-beginning_leaves name_of p holder (Overtaken newer) now s = ending name_of (ends.Superseded holder.generation newer) s
-beginning_leaves name_of p holder Missing now s = ending name_of ends.Forgotten s
-beginning_leaves name_of p holder (Knows outcome) now s = settling name_of p (Some outcome) now s
-beginning_leaves name_of p holder (Above got expected) now s = ending name_of (ends.SerialGap got expected) s
-beginning_leaves name_of p holder (Below got expected) now s = ending name_of (ends.SerialOld got expected) s
-beginning_leaves name_of p holder Goes now s = leaves refl refl (put_named name_of p holder (at p.channel s.numbers))
+beginning_leaves : (name_of : ℕ → List ℕ) (p : Publish) (holder : Holder) (v : Beginning) (now : ℕ) (s : State) → IsWishNamed name_of s.wish → Leaves name_of s (begun_by p holder v now s)
+beginning_leaves name_of p holder (Overtaken newer) now s w = ending name_of (ends.Superseded holder.generation newer) s
+beginning_leaves name_of p holder Missing now s w = ending name_of ends.Forgotten s
+beginning_leaves name_of p holder (Knows outcome) now s w = settling name_of p (Some outcome) now s
+beginning_leaves name_of p holder (Above got expected) now s w = ending name_of (ends.SerialGap got expected) s
+beginning_leaves name_of p holder (Below got expected) now s w = ending name_of (ends.SerialOld got expected) s
+beginning_leaves name_of p holder Goes now s w = leaves refl refl (put_named name_of p holder (at p.channel s.numbers))
+beginning_leaves name_of p holder Unbegun now s w = leaves refl refl w
+
+verdict_leaves : (name_of : ℕ → List ℕ) (p : Publish) (holder : Holder) (v : Option Verdict) (s : State) → IsWishNamed name_of s.wish → Leaves name_of s (put_by p holder v s)
+verdict_leaves name_of p holder (Some verdict) s w = leaves refl refl tt
+verdict_leaves name_of p holder None s w = leaves refl refl w
 
 -- NUMBERS
 
@@ -158,7 +166,7 @@ numbers_known name_of name number numbers is known q n h = by_test (bytes_eq q n
 
 asked_placed : (name_of : ℕ → List ℕ) (inputs : List Input) (asked : Asked) (reply : Reply) (now : ℕ) (s : State)
     → IsNamed name_of (Absorbed (calls.Dir (Ask asked.channel)) reply now) → Placed name_of inputs s
-    → Placed name_of (Absorbed (calls.Dir (Ask asked.channel)) reply now ∷ inputs) (attach_at asked (number_in reply) now s)
+    → Placed name_of (Absorbed (calls.Dir (Ask asked.channel)) reply now ∷ inputs) (attach_at asked (numbering reply) now s)
 asked_placed name_of inputs asked (replies.Dir (directory.At number)) now s is p = record {
   rising = p.rising;
   placed = λ name session h. carries name_of inputs (Absorbed (calls.Dir (Ask asked.channel)) (replies.Dir (directory.At number)) now) name session refl (p.placed name session h);
@@ -166,13 +174,13 @@ asked_placed name_of inputs asked (replies.Dir (directory.At number)) now s is p
   wished = is;
 }
 asked_placed name_of inputs asked (replies.Dir (directory.Full count)) now s is p = left _ (λ n b. refl) (leaves refl refl tt) p
-asked_placed name_of inputs asked (replies.Dir (directory.Names names)) now s is p = left _ (λ n b. refl) (leaves refl refl tt) p
-asked_placed name_of inputs asked (replies.Book reply) now s is p = left _ (λ n b. refl) (leaves refl refl tt) p
-asked_placed name_of inputs asked (replies.Chan reply) now s is p = left _ (λ n b. refl) (leaves refl refl tt) p
+asked_placed name_of inputs asked (replies.Dir (directory.Names names)) now s is p = left _ (λ n b. refl) (leaves refl refl p.wished) p
+asked_placed name_of inputs asked (replies.Book reply) now s is p = left _ (λ n b. refl) (leaves refl refl p.wished) p
+asked_placed name_of inputs asked (replies.Chan reply) now s is p = left _ (λ n b. refl) (leaves refl refl p.wished) p
 
 put_placed : (name_of : ℕ → List ℕ) (inputs : List Input) (p : Publish) (holder : Holder) (reply : Reply) (now : ℕ) (s : State)
     → IsNamed name_of (Absorbed (calls.Dir (Ask p.channel)) reply now) → Placed name_of inputs s
-    → Placed name_of (Absorbed (calls.Dir (Ask p.channel)) reply now ∷ inputs) (put_at p holder (number_in reply) s)
+    → Placed name_of (Absorbed (calls.Dir (Ask p.channel)) reply now ∷ inputs) (put_at p holder (numbering reply) s)
 put_placed name_of inputs p holder (replies.Dir (directory.At number)) now s is k = record {
   rising = k.rising;
   placed = λ name session h. carries name_of inputs (Absorbed (calls.Dir (Ask p.channel)) (replies.Dir (directory.At number)) now) name session refl (k.placed name session h);
@@ -180,9 +188,9 @@ put_placed name_of inputs p holder (replies.Dir (directory.At number)) now s is 
   wished = tt;
 }
 put_placed name_of inputs p holder (replies.Dir (directory.Full count)) now s is k = left _ (λ n b. refl) (leaves refl refl tt) k
-put_placed name_of inputs p holder (replies.Dir (directory.Names names)) now s is k = left _ (λ n b. refl) (leaves refl refl tt) k
-put_placed name_of inputs p holder (replies.Book reply) now s is k = left _ (λ n b. refl) (leaves refl refl tt) k
-put_placed name_of inputs p holder (replies.Chan reply) now s is k = left _ (λ n b. refl) (leaves refl refl tt) k
+put_placed name_of inputs p holder (replies.Dir (directory.Names names)) now s is k = left _ (λ n b. refl) (leaves refl refl k.wished) k
+put_placed name_of inputs p holder (replies.Book reply) now s is k = left _ (λ n b. refl) (leaves refl refl k.wished) k
+put_placed name_of inputs p holder (replies.Chan reply) now s is k = left _ (λ n b. refl) (leaves refl refl k.wished) k
 
 -- SESSIONS
 
@@ -403,14 +411,14 @@ module _ (name_of : ℕ → List ℕ) (inputs : List Input) where
       → IsNamed name_of (Absorbed call reply now) → IsWishNamed name_of wish → Placed name_of inputs s → Then wish reply now s call
   wish_placed wishes.Nothing hello moment call reply now s h is named w p = cc
   wish_placed (wishes.Resume key) hello moment call reply now s h is named w p =
-      subst (Then (wishes.Resume key) reply now s) (ap (λ (o : Option Call). inside o call) h) (left _ (λ n b. refl) (resuming name_of key (holder_in reply) now s) p)
+      subst (Then (wishes.Resume key) reply now s) (ap (λ (o : Option Call). inside o call) h) (left _ (λ n b. refl) (resuming_leaves name_of key (resuming reply) now s p.wished) p)
   wish_placed wishes.Open hello moment call reply now s h is named w p =
-      subst (Then wishes.Open reply now s) (ap (λ (o : Option Call). inside o call) h) (left _ (λ n b. refl) (opening_leaves name_of (opening reply) now s) p)
+      subst (Then wishes.Open reply now s) (ap (λ (o : Option Call). inside o call) h) (left _ (λ n b. refl) (opening_leaves name_of (opening reply) now s p.wished) p)
   wish_placed (wishes.Lost holder) hello moment call reply now s h is named w p =
       subst (Then (wishes.Lost holder) reply now s) (ap (λ (o : Option Call). inside o call) h) (left _ (λ n b. refl) (leaves refl refl tt) p)
   wish_placed (wishes.Close holder) hello moment call reply now s h is named w p =
       subst (Then (wishes.Close holder) reply now s) (ap (λ (o : Option Call). inside o call) h)
-      (left _ (λ n b. refl) (holding name_of holder (standing reply) (closed now) s (closing name_of now s)) p)
+      (left _ (λ n b. refl) (holding name_of holder (standing reply) (closed now) s p.wished (closing name_of now s)) p)
   wish_placed (wishes.AskToAttach asked) hello moment call reply now s h is named w p =
       let same = ap (λ (o : Option Call). inside o call) h in
       subst (Then (wishes.AskToAttach asked) reply now s) same
@@ -419,16 +427,16 @@ module _ (name_of : ℕ → List ℕ) (inputs : List Input) where
       let same = ap (λ (o : Option Call). inside o call) h in
       subst (Then (wishes.Join asked number) reply now s) same (joined_placed name_of inputs asked number asked.serial reply now s (ap (λ (c : Call). is_reply_to c reply) same ∙ is) w p)
   wish_placed (wishes.Begin p holder) hello moment call reply now s h is named w k =
-      subst (Then (wishes.Begin p holder) reply now s) (ap (λ (o : Option Call). inside o call) h) (left _ (λ n b. refl) (beginning_leaves name_of p holder (beginning reply) now s) k)
+      subst (Then (wishes.Begin p holder) reply now s) (ap (λ (o : Option Call). inside o call) h) (left _ (λ n b. refl) (beginning_leaves name_of p holder (beginning reply) now s k.wished) k)
   wish_placed (wishes.AskToPut p holder) hello moment call reply now s h is named w k =
       let same = ap (λ (o : Option Call). inside o call) h in
       subst (Then (wishes.AskToPut p holder) reply now s) same
       (put_placed name_of inputs p holder reply now s (subst (λ (c : Call). IsNamed name_of (Absorbed c reply now)) (sym same) named) k)
   wish_placed (wishes.Put p holder number) hello moment call reply now s h is named w k =
-      subst (Then (wishes.Put p holder number) reply now s) (ap (λ (o : Option Call). inside o call) h) (left _ (λ n b. refl) (leaves refl refl tt) k)
+      subst (Then (wishes.Put p holder number) reply now s) (ap (λ (o : Option Call). inside o call) h) (left _ (λ n b. refl) (verdict_leaves name_of p holder (verdict_in reply) s k.wished) k)
   wish_placed (wishes.Finish p holder outcome) hello moment call reply now s h is named w k =
       subst (Then (wishes.Finish p holder outcome) reply now s) (ap (λ (o : Option Call). inside o call) h)
-      (left _ (λ n b. refl) (holding name_of holder (standing reply) (settled p outcome now) s (settling name_of p outcome now s)) k)
+      (left _ (λ n b. refl) (holding name_of holder (standing reply) (settled p outcome now) s k.wished (settling name_of p outcome now s)) k)
 
   other_placed : (call : Call) (reply : Reply) (now : ℕ) (s : State) → is_of_session (Some call) ≡ false → IsCalled call s → is_reply_to call reply ≡ true
       → IsNamed name_of (Absorbed call reply now) → Placed name_of inputs s → Placed name_of (Absorbed call reply now ∷ inputs) (replied s.wish reply now s)

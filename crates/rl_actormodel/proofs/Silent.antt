@@ -24,7 +24,7 @@ take_drop [] = refl
 take_drop (x ∷ xs) = refl
 
 stays : (why : End) (input : Input) (s : State) → s.ended ≡ Some why → IsAllowed input s → Stays why input s
-stays why (Took came now) s h a = let apart : is_free s && has_room s ≡ false = ap (λ (b : Bool). b && has_room s) (not_free s why h) in absurd (cc)
+stays why (Took came now) s h a = let apart : is_free s && has_room s ≡ false = ap (λ (b : Bool). b && has_room s) (not_free s why h) in let may = a.0 in absurd (cc)
 stays why (Absorbed call reply now) s h a = record {
   over = ap (λ (e : Option End). (answered_at e call reply now s).ended) h ∙ h;
   same = ap (λ (e : Option End). (answered_at e call reply now s).waiting) h;

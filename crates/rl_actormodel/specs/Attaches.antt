@@ -10,13 +10,14 @@ use Rattle.rl_actormodel.specs.declared.parts.Session.{Session}
 use Rattle.rl_actormodel.specs.declared.parts.Wish.TheVariants as wishes
 use Rattle.rl_names.specs.Names.{with_entry}
 use Rattle.rl_actormodel.specs.State.{State, wishing, put}
-use Rattle.rl_actormodel.specs.Replies.{Joining}
+use Rattle.rl_actormodel.specs.Replies.{Joining, Numbering, Has, HasNone, Unnumbered}
 
 -- the channel's number is known from now on, and it is joined; where the directory is full the channel gets an ERROR
 -- (RTL14; the code is this project's own)
-abbrev pub attach_at : Asked → Option ℕ → ℕ → State → State
-attach_at asked (Some number) now s = record s { wish = wishes.Join asked number; numbers = with_entry asked.channel number s.numbers }
-attach_at asked None now s = put (frames.Error (Some asked.channel) CHANNEL_LIMIT) now (wishing wishes.Nothing s)
+abbrev pub attach_at : Asked → Numbering → ℕ → State → State
+attach_at asked (Has number) now s = record s { wish = wishes.Join asked number; numbers = with_entry asked.channel number s.numbers }
+attach_at asked HasNone now s = put (frames.Error (Some asked.channel) CHANNEL_LIMIT) now (wishing wishes.Nothing s)
+attach_at asked Unnumbered now s = s
 
 -- ATTACHED says that a serial was asked for from which the session does not go on. (This project's own.)
 abbrev pub attach_code : Option Given → Bool → Option ℕ
@@ -47,7 +48,7 @@ new_session channel number j sequence = record {
 
 -- the channel was joined: ATTACHED is put out, and a session begins in place of one that the channel may have had (RTL4)
 abbrev pub joined_by : Asked → ℕ → Option Joining → ℕ → State → State
-joined_by asked number None now s = wishing wishes.Nothing s
+joined_by asked number None now s = s
 joined_by asked number (Some j) now s =
     put (frames.Attached asked.channel j.serial (flags_of j) (attach_code asked.serial j.resumed)) now
     (record s {

@@ -72,6 +72,9 @@ pub record ShowsAttach : Type 0 where
   pub members : waits (joined false true false ∷ directory_says (At 4) ∷ attach None ∷ []) ≡ frames.Attached room (serial_at 6) 1 None ∷ []
   pub objects : waits (joined false false true ∷ directory_says (At 4) ∷ attach None ∷ []) ≡ frames.Attached room (serial_at 6) 128 None ∷ []
   pub resumed : waits (joined true true true ∷ directory_says (At 4) ∷ attach (Some (given.Ours (serial_at 6))) ∷ []) ≡ frames.Attached room (serial_at 6) 133 None ∷ []
+  pub ours_not_retained : waits (joined false false false ∷ directory_says (At 4) ∷ attach (Some (given.Ours (serial_at 3))) ∷ []) ≡ frames.Attached room (serial_at 6) 0 (Some 101) ∷ []
+  pub reads_from_told : poll_call room (after plain 0 (joined false false false ∷ directory_says (At 4) ∷ attach (Some (given.Ours (serial_at 3))) ∷ ready))
+      ≡ Some (calls.Chan 4 (events.Read 6 16))
   pub not_retained : waits (joined false false false ∷ directory_says (At 4) ∷ attach (Some (given.Other (codes "abc"))) ∷ []) ≡ frames.Attached room (serial_at 6) 0 (Some 101) ∷ []
   pub done : wants attached ≡ None
   pub full : waits (directory_says (Full 256) ∷ attach None ∷ []) ≡ frames.Error (Some room) 103 ∷ []
@@ -161,11 +164,13 @@ pub record ShowsSerials : Type 0 where
   pub superseded_done : wants (says (book.Superseded 2) ∷ publish ∷ []) ≡ None
   pub forgotten : (after plain 0 (says book.NoRecord ∷ publish ∷ ready)).ended ≡ Some ends.Forgotten
   pub forgotten_told : waits (says book.NoRecord ∷ publish ∷ []) ≡ disconnected 123 ∷ []
+  pub forgotten_done : wants (says book.NoRecord ∷ publish ∷ []) ≡ None
   pub late : (after plain 0 (says (book.Superseded 2) ∷ put_made (Done (Taken 5)) ++ ready)).ended ≡ Some (ends.Superseded 1 2)
   pub late_told : waits (says (book.Superseded 2) ∷ put_made (Done (Taken 5))) ≡ disconnected 123 ∷ []
   pub late_done : wants (says (book.Superseded 2) ∷ put_made (Done (Taken 5))) ≡ None
   pub late_forgotten : (after plain 0 (says book.NoRecord ∷ put_made (Done (Taken 5)) ++ ready)).ended ≡ Some ends.Forgotten
   pub late_forgotten_told : waits (says book.NoRecord ∷ put_made (Done (Taken 5))) ≡ disconnected 123 ∷ []
+  pub late_forgotten_done : wants (says book.NoRecord ∷ put_made (Done (Taken 5))) ≡ None
 
 -- WHO PUBLISHES
 
@@ -186,4 +191,8 @@ pub record ShowsClientIds : Type 0 where
   pub own_member : put_by named (frames.Presence (head_of 0) (member (codes "bob") ∷ [])) ≡ Some (calls.Chan 4 (events.Put 1 0 (bodies.Presence (member (codes "bob") ∷ [])) 9))
   pub signed_member : put_by named (frames.Presence (head_of 0) (member [] ∷ [])) ≡ Some (calls.Chan 4 (events.Put 1 0 (bodies.Presence (member (codes "ann") ∷ [])) 9))
   pub unsigned_member : put_by plain (frames.Presence (head_of 0) (member [] ∷ [])) ≡ Some (calls.Chan 4 (events.Put 1 0 (bodies.Presence (member [] ∷ [])) 9))
+  pub two_messages : put_by named (frames.Message (head_of 0) (message None ∷ message (Some (codes "bob")) ∷ message None ∷ []))
+      ≡ Some (calls.Chan 4 (events.Put 1 0 (bodies.Messages (message (Some (codes "ann")) ∷ message (Some (codes "bob")) ∷ message (Some (codes "ann")) ∷ [])) 9))
+  pub two_members : put_by named (frames.Presence (head_of 0) (member [] ∷ member (codes "bob") ∷ member [] ∷ []))
+      ≡ Some (calls.Chan 4 (events.Put 1 0 (bodies.Presence (member (codes "ann") ∷ member (codes "bob") ∷ member (codes "ann") ∷ [])) 9))
   pub operations : put_by named (frames.Object (head_of 0) (operation ∷ [])) ≡ Some (calls.Chan 4 (events.Put 1 0 (bodies.Objects (operation ∷ [])) 9))

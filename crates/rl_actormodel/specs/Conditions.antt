@@ -21,6 +21,7 @@ use Rattle.rl_events.specs.declared.calls.Reply.{Reply}
 use Rattle.rl_events.specs.declared.calls.Reply.TheVariants as replies
 use Rattle.rl_actormodel.specs.State.{State, is_free, has_room}
 use Rattle.rl_actormodel.specs.Wishes.{next_call, page_call, poll_call}
+use Rattle.rl_actormodel.specs.Takes.{has_form}
 use Rattle.rl_actormodel.specs.Inputs.{Input, Took, Absorbed, run}
 
 -- REPLIES
@@ -97,9 +98,10 @@ IsCalled call s =
     ((moment : ℕ) × (next_call moment s ≡ Some call))
     ⊎ ((name : List ℕ) × ((page_call name s ≡ Some call) ⊎ (poll_call name s ≡ Some call)) × (has_room s ≡ true))
 
--- each input comes where its call may be made; a rest, an ending and the taking of a frame come at any time
+-- each input comes where its call may be made, and what is taken up has its form; a rest, an ending and the taking of a
+-- frame come at any time
 abbrev pub IsAllowed : Input → State → Type 0
-IsAllowed (Took came now) s = may_take s ≡ true
+IsAllowed (Took came now) s = (may_take s ≡ true) × (has_form came ≡ true)
 IsAllowed (Absorbed call reply now) s = IsCalled call s × (is_reply_to call reply ≡ true)
 IsAllowed input s = Unit {0}
 

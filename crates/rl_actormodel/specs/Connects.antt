@@ -7,9 +7,9 @@ use Rattle.rl_types.specs.declared.frames.Frame.TheVariants as frames
 use Rattle.rl_events.specs.declared.calls.End.TheVariants as ends
 use Rattle.rl_actormodel.specs.declared.parts.Holder.{Holder}
 use Rattle.rl_actormodel.specs.declared.parts.Wish.TheVariants as wishes
-use Rattle.rl_actormodel.specs.State.{State, wishing, put}
+use Rattle.rl_actormodel.specs.State.{State, put}
 use Rattle.rl_actormodel.specs.Ends.{ended_by}
-use Rattle.rl_actormodel.specs.Replies.{Standing, Passed, Gone, Holds, Opening, Opens, Limited, Unopened}
+use Rattle.rl_actormodel.specs.Replies.{Standing, Passed, Gone, Holds, Unsaid, Opening, Opens, Limited, Unopened, Resuming, Back, NotKnown, Unresumed}
 
 -- CONNECTED says that a key was brought which is not known (RTN15c7; the code is this project's own)
 abbrev pub unknown_code : Bool → Option ℕ
@@ -23,21 +23,23 @@ connected holder key now s =
     (record s { wish = wishes.Nothing; holder = Some holder })
 
 -- the connection came back under its key; else a new one is asked for (RTN15c)
-abbrev pub resumed_by : List ℕ → Option Holder → ℕ → State → State
-resumed_by key (Some holder) now s = connected holder key now s
-resumed_by key None now s = record s { wish = wishes.Open; unknown = true }
+abbrev pub resumed_by : List ℕ → Resuming → ℕ → State → State
+resumed_by key (Back holder) now s = connected holder key now s
+resumed_by key NotKnown now s = record s { wish = wishes.Open; unknown = true }
+resumed_by key Unresumed now s = s
 
 -- a connection was opened, or there are too many (RTN4; the limit is this project's own)
 abbrev pub opened_by : Opening → ℕ → State → State
 opened_by (Opens holder key) now s = connected holder key now s
 opened_by (Limited count given) now s = ended_by (ends.ConnectionLimit count given) s
-opened_by Unopened now s = wishing wishes.Nothing s
+opened_by Unopened now s = s
 
 -- an actor whose connection is no longer its own ends; else it goes on. (This project's own.)
 abbrev pub if_held : Holder → Standing → (State → State) → State → State
 if_held holder (Passed newer) next s = ended_by (ends.Superseded holder.generation newer) s
 if_held holder Gone next s = ended_by ends.Forgotten s
 if_held holder Holds next s = next s
+if_held holder Unsaid next s = s
 
 -- the connection is closed: CLOSED is put out, and the actor ends (RTN12a)
 abbrev pub closed : ℕ → State → State

@@ -1,9 +1,10 @@
 -- Worked examples, of which each answer was written down from what an actor is to do. Here the values that they share, and
 -- the connection: how it begins, comes back, is refused and closed.
 use Rattle.std.specs.Prelude.{◌≡◌, ℕ, List, [], ◌∷◌, ◌++◌, Option, Some, None, codes, Ok, Err}
+use Rattle.rl_types.specs.declared.frames.Head.{Head}
 use Rattle.rl_types.specs.declared.frames.Frame.{Frame}
 use Rattle.rl_types.specs.declared.frames.Frame.TheVariants as frames
-use Rattle.rl_types.specs.declared.frames.WireFault.TheVariants.{NotJson}
+use Rattle.rl_types.specs.declared.frames.WireFault.TheVariants.{NotJson, NoMemory}
 use Rattle.rl_runs.specs.declared.commands.Hello.{Hello}
 use Rattle.rl_events.specs.declared.book.BookEvent.TheVariants as book_events
 use Rattle.rl_events.specs.declared.book.BookReply.{BookReply}
@@ -91,6 +92,7 @@ pub record ShowsClose : Type 0 where
   pub superseded_end : (after plain 0 (says (book.Superseded 2) ∷ took_frame frames.Close ∷ ready)).ended ≡ Some (ends.Superseded 1 2)
   pub superseded_done : wants (says (book.Superseded 2) ∷ took_frame frames.Close ∷ []) ≡ None
   pub forgotten_end : (after plain 0 (says book.NoRecord ∷ took_frame frames.Close ∷ ready)).ended ≡ Some ends.Forgotten
+  pub forgotten_done : wants (says book.NoRecord ∷ took_frame frames.Close ∷ []) ≡ None
 
 pub record ShowsOthers : Type 0 where
   pub heartbeat : waits (took_frame frames.Heartbeat ∷ []) ≡ frames.Heartbeat ∷ []
@@ -106,17 +108,26 @@ pub record ShowsOthers : Type 0 where
 
 -- BAD FRAMES
 
+-- a head without a message serial
+abbrev pub bare : Head
+bare = record { channel = room; msg = None; serial = None; conn = None; id = None; stamp = None }
+
 abbrev pub without_serial : Frame
-without_serial = frames.Message (record { channel = room; msg = None; serial = None; conn = None; id = None; stamp = None }) []
+without_serial = frames.Message bare []
 
 abbrev pub with_serial : Frame
-with_serial = frames.Message (record { channel = room; msg = Some 0; serial = None; conn = None; id = None; stamp = None }) []
+with_serial = frames.Message (record bare { msg = Some 0 }) []
 
 pub record ShowsBadFrames : Type 0 where
-  pub fault : came_in (codes "{") (Err NotJson) ≡ Bad (codes "{")
-  pub lacks : came_in (codes "x") (Ok (Some without_serial)) ≡ Bad (codes "x")
-  pub fine : came_in (codes "x") (Ok (Some with_serial)) ≡ A with_serial
-  pub other : came_in (codes "x") (Ok None) ≡ Unknown
+  pub fault : came_in (codes "{") (Err NotJson) ≡ Some (Bad (codes "{"))
+  pub no_memory : came_in (codes "{") (Err NoMemory) ≡ None
+  pub lacks : came_in (codes "x") (Ok (Some without_serial)) ≡ Some (Bad (codes "x"))
+  pub presence_lacks : came_in (codes "x") (Ok (Some (frames.Presence bare []))) ≡ Some (Bad (codes "x"))
+  pub object_lacks : came_in (codes "x") (Ok (Some (frames.Object bare []))) ≡ Some (Bad (codes "x"))
+  pub fine : came_in (codes "x") (Ok (Some with_serial)) ≡ Some (A with_serial)
+  pub needs_none : came_in (codes "x") (Ok (Some frames.Heartbeat)) ≡ Some (A frames.Heartbeat)
+  pub attach_needs_none : came_in (codes "x") (Ok (Some (frames.Attach room None))) ≡ Some (A (frames.Attach room None))
+  pub other : came_in (codes "x") (Ok None) ≡ Some Unknown
   pub told : waits (Took (Bad (codes "{")) 0 ∷ []) ≡ disconnected 120 ∷ []
   pub ended : (after plain 0 (Took (Bad (codes "{")) 0 ∷ ready)).ended ≡ Some (ends.BadFrame (codes "{"))
   pub wants_lost : wants (Took (Bad (codes "{")) 0 ∷ []) ≡ lost

@@ -1,5 +1,5 @@
 -- What is true of one actor whose inputs meet the conditions of its calls.
-use Rattle.std.specs.Prelude.{◌≡◌, ℕ, ◌≤◌, List, [], ◌∷◌, ◌++◌, length, Some, None}
+use Rattle.std.specs.Prelude.{◌≡◌, ℕ, ◌≤◌, Bool, true, false, List, [], ◌∷◌, ◌++◌, length, Some, None}
 use Rattle.rl_numbers.specs.declared.limits.TheConstants.{MAX_OUTBOX}
 use Rattle.rl_types.specs.declared.frames.Frame.{Frame}
 use Rattle.rl_types.specs.declared.frames.Frame.TheVariants as frames
@@ -7,7 +7,8 @@ use Rattle.rl_runs.specs.declared.commands.Hello.{Hello}
 use Rattle.rl_events.specs.declared.calls.End.{End}
 use Rattle.rl_actormodel.specs.declared.parts.Wish.{Wish}
 use Rattle.rl_actormodel.specs.declared.parts.Wish.TheVariants as wishes
-use Rattle.rl_actormodel.specs.State.{State, begun}
+use Rattle.rl_actormodel.specs.declared.parts.Holder.{Holder}
+use Rattle.rl_actormodel.specs.State.{State, begun, is_free}
 use Rattle.rl_actormodel.specs.Takes.{Came, A}
 use Rattle.rl_actormodel.specs.Inputs.{Input, Took, after, put_out}
 use Rattle.rl_actormodel.specs.Conditions.{AreAllowed}
@@ -24,6 +25,15 @@ abbrev pub EndedIsSilent : Type 0
 EndedIsSilent =
     (hello : Hello) (start : ℕ) (before more : List Input) (why : End)
     → (after hello start before).ended ≡ Some why → AreAllowed (more ++ before) (begun hello start) → IsSilent hello start before why more
+
+-- THE CONNECTION
+
+-- an actor that is not ended and wants no call serves a connection: so a put and a CLOSE have one to name
+abbrev pub FreeIsConnected : Type 0
+FreeIsConnected =
+    (hello : Hello) (start : ℕ) (inputs : List Input)
+    → AreAllowed inputs (begun hello start) → is_free (after hello start inputs) ≡ true
+    → (holder : Holder) × ((after hello start inputs).holder ≡ Some holder)
 
 -- ATTACH AND DETACH
 
@@ -68,14 +78,20 @@ owed (wishes.AskToAttach asked) = ToAttach asked.channel ∷ []
 owed (wishes.Join asked number) = ToAttach asked.channel ∷ []
 owed wish = []
 
+-- nothing is left without an answer, or one ATTACH
+abbrev pub is_one_attach : List Ask → Bool
+is_one_attach [] = true
+is_one_attach (ToAttach channel ∷ []) = true
+is_one_attach left = false
+
 -- what was asked is what was answered, then what is in hand, then what is left without an answer: nothing unless the
--- actor is ended, and then at most one
+-- actor is ended, and then at most one ATTACH
 pub record AreAnswered (inputs : List Input) (s : State) (out : List Frame) : Type 0 where
   pub left : List Ask
   pub all : answers out ++ (owed s.wish ++ left) ≡ asks inputs
   pub none : s.ended ≡ None → left ≡ []
   pub quiet : (why : End) → s.ended ≡ Some why → owed s.wish ≡ []
-  pub few : length left ≤ 1
+  pub few : is_one_attach left ≡ true
 
 -- each ATTACH and each DETACH is answered once, in order
 abbrev pub AnsweredInOrder : Type 0

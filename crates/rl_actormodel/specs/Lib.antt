@@ -15,4 +15,7 @@ pub mod Laws
 pub mod Positions
 pub mod Examples
 pub mod ChannelExamples
+pub mod PublishExamples
 pub mod SyncExamples
+pub mod MomentExamples
+pub mod SessionExamples

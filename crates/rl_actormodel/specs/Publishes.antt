@@ -4,6 +4,7 @@ use Rattle.rl_numbers.specs.declared.codes.TheConstants.{CHANNEL_LIMIT}
 use Rattle.rl_types.specs.declared.frames.Frame.TheVariants as frames
 use Rattle.rl_events.specs.declared.channel.Outcome.{Outcome}
 use Rattle.rl_events.specs.declared.channel.Outcome.TheVariants.{Taken, Refused}
+use Rattle.rl_events.specs.declared.channel.Verdict.{Verdict}
 use Rattle.rl_events.specs.declared.calls.End.TheVariants as ends
 use Rattle.rl_actormodel.specs.declared.parts.Publish.{Publish}
 use Rattle.rl_actormodel.specs.declared.parts.Holder.{Holder}
@@ -12,7 +13,7 @@ use Rattle.rl_actormodel.specs.declared.parts.Wish.TheVariants as wishes
 use Rattle.rl_names.specs.Names.{at, with_entry}
 use Rattle.rl_actormodel.specs.State.{State, wishing, put}
 use Rattle.rl_actormodel.specs.Ends.{ended_by}
-use Rattle.rl_actormodel.specs.Replies.{Beginning, Overtaken, Missing, Knows, Above, Below, Goes}
+use Rattle.rl_actormodel.specs.Replies.{Beginning, Overtaken, Missing, Knows, Above, Below, Goes, Unbegun, Numbering, Has, HasNone, Unnumbered, outcome_of}
 
 -- the put is acknowledged: ACK where it was taken, NACK where it was refused, nothing where it was old (RTN7a)
 abbrev pub settled : Publish → Option Outcome → ℕ → State → State
@@ -34,9 +35,16 @@ begun_by p holder (Knows outcome) now s = settled p (Some outcome) now s
 begun_by p holder (Above got expected) now s = ended_by (ends.SerialGap got expected) s
 begun_by p holder (Below got expected) now s = ended_by (ends.SerialOld got expected) s
 begun_by p holder Goes now s = wishing (put_wish p holder (at p.channel s.numbers)) s
+begun_by p holder Unbegun now s = s
 
 -- the channel's number is known from now on, and it is put there; where the directory is full the put is refused. (This
 -- project's own.)
-abbrev pub put_at : Publish → Holder → Option ℕ → State → State
-put_at p holder (Some number) s = record s { wish = wishes.Put p holder number; numbers = with_entry p.channel number s.numbers }
-put_at p holder None s = wishing (wishes.Finish p holder (Some (Refused CHANNEL_LIMIT))) s
+abbrev pub put_at : Publish → Holder → Numbering → State → State
+put_at p holder (Has number) s = record s { wish = wishes.Put p holder number; numbers = with_entry p.channel number s.numbers }
+put_at p holder HasNone s = wishing (wishes.Finish p holder (Some (Refused CHANNEL_LIMIT))) s
+put_at p holder Unnumbered s = s
+
+-- the channel took the put, refused it, or knew it as old; the book is told (RTN7a)
+abbrev pub put_by : Publish → Holder → Option Verdict → State → State
+put_by p holder (Some verdict) s = wishing (wishes.Finish p holder (outcome_of verdict)) s
+put_by p holder None s = s

@@ -19,10 +19,10 @@ use Rattle.rl_actormodel.specs.declared.parts.Wish.TheVariants as wishes
 use Rattle.rl_names.specs.Names.{with_entry}
 use Rattle.rl_actormodel.specs.State.{State, numbered, wishing, puts}
 use Rattle.rl_actormodel.specs.Ends.{ended_by}
-use Rattle.rl_actormodel.specs.Replies.{standing, beginning, opening, holder_in, number_in, joining_in, outcome_in, Reading, Came, Behind, Unread, reading, channel_reply}
+use Rattle.rl_actormodel.specs.Replies.{standing, beginning, opening, resuming, numbering, joining_in, verdict_in, Reading, Came, Behind, Unread, reading, channel_reply}
 use Rattle.rl_actormodel.specs.Connects.{resumed_by, opened_by, if_held, closed}
 use Rattle.rl_actormodel.specs.Attaches.{attach_at, joined_by}
-use Rattle.rl_actormodel.specs.Publishes.{settled, begun_by, put_at}
+use Rattle.rl_actormodel.specs.Publishes.{settled, begun_by, put_at, put_by}
 use Rattle.rl_actormodel.specs.Pagings.{page_by, ends_here, ended_here}
 
 -- AN ENTRY AS A FRAME
@@ -87,15 +87,15 @@ page_on number reply now s = on_session (λ name session. page_by name session (
 -- what each wish's reply leads to. (This project's own.)
 abbrev pub replied : Wish → Reply → ℕ → State → State
 replied wishes.Nothing reply now s = s
-replied (wishes.Resume key) reply now s = resumed_by key (holder_in reply) now s
+replied (wishes.Resume key) reply now s = resumed_by key (resuming reply) now s
 replied wishes.Open reply now s = opened_by (opening reply) now s
 replied (wishes.Lost holder) reply now s = wishing wishes.Nothing s
 replied (wishes.Close holder) reply now s = if_held holder (standing reply) (closed now) s
-replied (wishes.AskToAttach asked) reply now s = attach_at asked (number_in reply) now s
+replied (wishes.AskToAttach asked) reply now s = attach_at asked (numbering reply) now s
 replied (wishes.Join asked number) reply now s = joined_by asked number (joining_in reply) now s
 replied (wishes.Begin p holder) reply now s = begun_by p holder (beginning reply) now s
-replied (wishes.AskToPut p holder) reply now s = put_at p holder (number_in reply) s
-replied (wishes.Put p holder number) reply now s = wishing (wishes.Finish p holder (outcome_in reply)) s
+replied (wishes.AskToPut p holder) reply now s = put_at p holder (numbering reply) s
+replied (wishes.Put p holder number) reply now s = put_by p holder (verdict_in reply) s
 replied (wishes.Finish p holder outcome) reply now s = if_held holder (standing reply) (settled p outcome now) s
 
 -- REPLIES OF ALL CALLS

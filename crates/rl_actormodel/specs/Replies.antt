@@ -1,4 +1,4 @@
--- What a reply says to each question. One of another kind says nothing.
+-- What a reply says to each question. Each has a case for a reply of another kind, which leaves an actor as it is.
 use Rattle.std.specs.Prelude.{ℕ, Bool, List, Option, Some, None}
 use Rattle.rl_ids.specs.declared.serials.ChannelSerial.{ChannelSerial}
 use Rattle.rl_types.specs.declared.messages.Entry.{Entry}
@@ -9,7 +9,7 @@ use Rattle.rl_events.specs.declared.channel.ChannelReply.{ChannelReply}
 use Rattle.rl_events.specs.declared.channel.ChannelReply.TheVariants as channel
 use Rattle.rl_events.specs.declared.channel.ReadReply.TheVariants.{Run, NotRetained}
 use Rattle.rl_events.specs.declared.book.BookReply.TheVariants as book
-use Rattle.rl_events.specs.declared.calls.DirReply.TheVariants.{At}
+use Rattle.rl_events.specs.declared.calls.DirReply.TheVariants.{At, Full}
 use Rattle.rl_events.specs.declared.calls.Reply.{Reply}
 use Rattle.rl_events.specs.declared.calls.Reply.TheVariants.{Book, Dir, Chan}
 use Rattle.rl_actormodel.specs.declared.parts.Holder.{Holder}
@@ -21,12 +21,14 @@ pub data Standing : Type 0 where
   Passed : (newer : ℕ) → Standing  -- a later transport has it, under this generation
   Gone : Standing  -- it is forgotten
   Holds : Standing
+  Unsaid : Standing
 
--- a reply that takes the connection away. (This project's own.)
+-- what a reply says of that. (This project's own.)
 abbrev pub standing : Reply → Standing
 standing (Book (book.Superseded newer)) = Passed newer
 standing (Book book.NoRecord) = Gone
-standing reply = Holds
+standing (Book book.Done) = Holds
+standing reply = Unsaid
 
 -- may the put go on?
 pub data Beginning : Type 0 where
@@ -36,6 +38,7 @@ pub data Beginning : Type 0 where
   Above : (got expected : ℕ) → Beginning  -- its serial leaves others out
   Below : (got expected : ℕ) → Beginning  -- its serial is past, and its outcome is not kept
   Goes : Beginning
+  Unbegun : Beginning
 
 -- what the book says of a put's serial (RTN7b, RTN19a)
 abbrev pub beginning : Reply → Beginning
@@ -44,7 +47,8 @@ beginning (Book book.NoRecord) = Missing
 beginning (Book (book.Known outcome)) = Knows outcome
 beginning (Book (book.SerialGap got expected)) = Above got expected
 beginning (Book (book.SerialOld got expected)) = Below got expected
-beginning reply = Goes
+beginning (Book book.Go) = Goes
+beginning reply = Unbegun
 
 -- was a connection opened?
 pub data Opening : Type 0 where
@@ -59,16 +63,30 @@ opening (Book (book.Limit count given)) = Limited count given
 opening reply = Unopened
 
 -- did the connection come back?
-abbrev pub holder_in : Reply → Option Holder
-holder_in (Book (book.Resumed conn generation)) = Some (record { conn = conn; generation = generation })
-holder_in reply = None
+pub data Resuming : Type 0 where
+  Back : (holder : Holder) → Resuming
+  NotKnown : Resuming  -- its key is not known
+  Unresumed : Resuming
+
+-- what a Resume was replied (RTN15c)
+abbrev pub resuming : Reply → Resuming
+resuming (Book (book.Resumed conn generation)) = Back (record { conn = conn; generation = generation })
+resuming (Book book.KeyUnknown) = NotKnown
+resuming reply = Unresumed
 
 -- OF THE DIRECTORY
 
--- which number has the channel? None where the directory is full
-abbrev pub number_in : Reply → Option ℕ
-number_in (Dir (At number)) = Some number
-number_in reply = None
+-- which number has the channel?
+pub data Numbering : Type 0 where
+  Has : (number : ℕ) → Numbering
+  HasNone : Numbering  -- the directory is full
+  Unnumbered : Numbering
+
+-- what the directory replied. (This project's own.)
+abbrev pub numbering : Reply → Numbering
+numbering (Dir (At number)) = Has number
+numbering (Dir (Full count)) = HasNone
+numbering reply = Unnumbered
 
 -- OF A CHANNEL
 
@@ -91,9 +109,9 @@ outcome_of (Done outcome) = Some outcome
 outcome_of Old = None
 
 -- what a Put was replied (RTN7a)
-abbrev pub outcome_in : Reply → Option Outcome
-outcome_in (Chan (channel.Put verdict)) = outcome_of verdict
-outcome_in reply = None
+abbrev pub verdict_in : Reply → Option Verdict
+verdict_in (Chan (channel.Put verdict)) = Some verdict
+verdict_in reply = None
 
 -- what was read?
 pub data Reading : Type 0 where

@@ -19,7 +19,7 @@ use Rattle.rl_events.specs.declared.calls.Call.{Call}
 use Rattle.rl_events.specs.declared.calls.Call.TheVariants as calls
 use Rattle.rl_events.specs.declared.calls.Reply.TheVariants as replies
 use Rattle.rl_events.specs.declared.calls.End.TheVariants as ends
-use Rattle.rl_actormodel.specs.State.{State, has_room}
+use Rattle.rl_actormodel.specs.State.{State, has_room, session_names}
 use Rattle.rl_actormodel.specs.Wishes.{next_call, poll_call, page_call}
 use Rattle.rl_actormodel.specs.Ends.{farewell}
 use Rattle.rl_actormodel.specs.Rests.{does_rest, rested}
@@ -212,6 +212,9 @@ pub record ShowsEnds : Type 0 where
   pub gives_up : wants (Ended ends.LinkEnded ∷ publish ∷ []) ≡ lost
   pub behind : waits (Ended ends.Stopped ∷ took_frame frames.Heartbeat ∷ []) ≡ frames.Heartbeat ∷ frames.Disconnected None ∷ []
   pub no_connection : next_call 9 (after plain 0 (Ended ends.LinkEnded ∷ [])) ≡ None
+  pub stop_without_connection : (after plain 0 (Ended ends.Stopped ∷ [])).waiting ≡ frames.Disconnected None ∷ []
+  pub stop_calls_not : next_call 9 (after plain 0 (Ended ends.Stopped ∷ [])) ≡ None
+  pub sessions_stay : session_names (after plain 0 (Ended ends.LinkEnded ∷ attached ++ ready)) ≡ room ∷ []
   pub first_end : (after plain 0 (Ended ends.Stopped ∷ Ended ends.LinkEnded ∷ ready)).ended ≡ Some ends.LinkEnded
   pub first_wish : wants (Ended ends.Stopped ∷ says book.Done ∷ Ended ends.LinkEnded ∷ []) ≡ None
   pub first_silent : waits (Ended ends.Stopped ∷ Ended ends.LinkEnded ∷ []) ≡ []

@@ -1,5 +1,5 @@
 -- What an actor does with a frame that it takes up.
-use Rattle.std.specs.Prelude.{ℕ, Bool, false, is_none, if◌then◌else◌, List, [], ◌∷◌, map, Option, Some, None, Result, Ok, Err, unwrap_or}
+use Rattle.std.specs.Prelude.{ℕ, Bool, true, false, not, is_none, if◌then◌else◌, List, [], ◌∷◌, map, Option, Some, None, Result, Ok, Err, unwrap_or}
 use Rattle.rl_types.specs.declared.messages.Body.{Body}
 use Rattle.rl_types.specs.declared.messages.Body.TheVariants.{Messages, Presence, Objects}
 use Rattle.rl_types.specs.declared.messages.Item.{Item}
@@ -8,6 +8,7 @@ use Rattle.rl_types.specs.declared.frames.Head.{Head}
 use Rattle.rl_types.specs.declared.frames.Frame.{Frame}
 use Rattle.rl_types.specs.declared.frames.Frame.TheVariants as frames
 use Rattle.rl_types.specs.declared.frames.WireFault.{WireFault}
+use Rattle.rl_types.specs.declared.frames.WireFault.TheVariants.{NoMemory}
 use Rattle.rl_events.specs.declared.calls.End.TheVariants as ends
 use Rattle.rl_actormodel.specs.declared.parts.Asked.{Asked}
 use Rattle.rl_actormodel.specs.declared.parts.Publish.{Publish}
@@ -84,11 +85,19 @@ lacks_serial (frames.Presence head items) = is_none head.msg
 lacks_serial (frames.Object head ops) = is_none head.msg
 lacks_serial frame = false
 
--- what came in these bytes, which read so. (This project's own.)
-abbrev pub came_in : List ℕ → Result (Option Frame) WireFault → Came
-came_in bytes (Ok (Some frame)) = if lacks_serial frame then Bad bytes else A frame
-came_in bytes (Ok None) = Unknown
-came_in bytes (Err fault) = Bad bytes
+-- what came in these bytes, which read so; nothing where there was no memory to read them. (This project's own.)
+abbrev pub came_in : List ℕ → Result (Option Frame) WireFault → Option Came
+came_in bytes (Ok (Some frame)) = Some (if lacks_serial frame then Bad bytes else A frame)
+came_in bytes (Ok None) = Some Unknown
+came_in bytes (Err NoMemory) = None
+came_in bytes (Err fault) = Some (Bad bytes)
+
+-- it is a frame only with the message serial that it has to have. That bad bytes are no good frame is for whoever reads
+-- them to say: `came_in` is what they read as
+abbrev pub has_form : Came → Bool
+has_form (A frame) = not (lacks_serial frame)
+has_form Unknown = true
+has_form (Bad bytes) = true
 
 -- FRAMES
 

@@ -1,12 +1,15 @@
 //! Laws over the definitions alone. Each is a function that does nothing: its contract is the law.
-ghost use Rattle.rl_actormodel.specs.Laws.{AnsweredInOrder, EndedIsSilent, OutboxIsBounded};
+ghost use Rattle.rl_actormodel.specs.Laws.{AnsweredInOrder, EndedIsSilent, FreeIsConnected, OutboxIsBounded};
 ghost use Rattle.rl_actormodel.specs.Positions.{PositionsAreKept};
 ghost use Rattle.rl_actormodel.specs.Examples.{ShowsBadFrames, ShowsClose, ShowsOthers, ShowsStart};
 ghost use Rattle.rl_actormodel.specs.ChannelExamples.{ShowsAttach, ShowsAttachAgain, ShowsClientIds, ShowsDetach, ShowsPublish, ShowsSerials};
+ghost use Rattle.rl_actormodel.specs.MomentExamples.{ShowsLastIn, ShowsLastOut};
+ghost use Rattle.rl_actormodel.specs.PublishExamples.{ShowsBack, ShowsKept, ShowsNumbers};
+ghost use Rattle.rl_actormodel.specs.SessionExamples.{ShowsApart, ShowsBeginnings, ShowsOtherKinds, ShowsPassedOver, ShowsWhole};
 ghost use Rattle.rl_actormodel.specs.SyncExamples.{ShowsEnds, ShowsEndsInTime, ShowsFarewells, ShowsPages, ShowsReads, ShowsRests, ShowsSequences};
 
 /// Each ATTACH is answered once, by ATTACHED or by the channel's ERROR, and each DETACH once, by DETACHED, in the order in
-/// which they were taken up. The last one may be left without an answer where the actor is ended.
+/// which they were taken up. An ATTACH may be left without an answer where the actor is ended: the last that was asked.
 #[tactic(auto, using(crate::proofs::Answered::answered_in_order))]
 pub fn answered_in_order()
     ensures { AnsweredInOrder }
@@ -16,6 +19,12 @@ pub fn answered_in_order()
 #[tactic(auto, using(crate::proofs::Silent::ended_is_silent))]
 pub fn ended_is_silent()
     ensures { EndedIsSilent }
+{}
+
+/// An actor that is not ended and wants no call serves a connection.
+#[tactic(auto, using(crate::proofs::Connected::free_is_connected))]
+pub fn free_is_connected()
+    ensures { FreeIsConnected }
 {}
 
 /// Never more than [`MAX_OUTBOX`](rl_numbers::limits::MAX_OUTBOX) frames wait, whatever the machines reply.
@@ -130,4 +139,64 @@ pub fn farewells_shown()
 #[tactic(auto, using(crate::proofs::Computed::ends))]
 pub fn ends_shown()
     ensures { ShowsEnds }
+{}
+
+/// A connection that came back: its number and generation stand in each call, and the put's serial in each call and answer.
+#[tactic(auto, using(crate::proofs::Computed::back))]
+pub fn back_shown()
+    ensures { ShowsBack }
+{}
+
+/// With two channels attached, each put goes to its own channel.
+#[tactic(auto, using(crate::proofs::Computed::numbers))]
+pub fn numbers_shown()
+    ensures { ShowsNumbers }
+{}
+
+/// What the directory replied to a put serves the next ATTACH and the next put; Full is asked again.
+#[tactic(auto, using(crate::proofs::Computed::kept))]
+pub fn kept_shown()
+    ensures { ShowsKept }
+{}
+
+/// Which inputs count as a frame that came, as Idle shows.
+#[tactic(auto, using(crate::proofs::Computed::last_in))]
+pub fn last_in_shown()
+    ensures { ShowsLastIn }
+{}
+
+/// Which inputs count as a frame that was put out, as HEARTBEAT shows.
+#[tactic(auto, using(crate::proofs::Computed::last_out))]
+pub fn last_out_shown()
+    ensures { ShowsLastOut }
+{}
+
+/// The frames that change nothing but the moment of the last one that came, in every state.
+#[tactic(auto, using(crate::proofs::Computed::passed_over))]
+pub fn passed_over_shown()
+    ensures { ShowsPassedOver }
+{}
+
+/// A reply of another kind than its call's leaves an actor as it is.
+#[tactic(auto, using(crate::proofs::Computed::other_kinds))]
+pub fn other_kinds_shown()
+    ensures { ShowsOtherKinds }
+{}
+
+/// Of two sessions, a read or a page moves its own alone.
+#[tactic(auto, using(crate::proofs::Computed::apart))]
+pub fn apart_shown()
+    ensures { ShowsApart }
+{}
+
+/// How a session begins: its epoch, its first page, the number of its sync, and a sync of members alone.
+#[tactic(auto, using(crate::proofs::Computed::beginnings))]
+pub fn beginnings_shown()
+    ensures { ShowsBeginnings }
+{}
+
+/// A whole session with the calls that it makes: each input meets the conditions of its call, and these frames are put out.
+#[tactic(auto, using(crate::proofs::Computed::whole))]
+pub fn whole_shown()
+    ensures { ShowsWhole }
 {}

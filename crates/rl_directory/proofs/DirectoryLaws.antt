@@ -7,8 +7,8 @@ use Rattle.rl_numbers.specs.declared.limits.TheConstants.{MAX_CHANNELS}
 use Rattle.rl_events.specs.declared.calls.DirEvent.{DirEvent}
 use Rattle.rl_events.specs.declared.calls.DirEvent.TheVariants.{Ask, Names}
 use Rattle.rl_events.specs.declared.calls.DirReply.TheVariants.{At, Full}
-use Rattle.rl_directory.specs.Directory.{number_of, is_full, told, asked_by, named_by, after, names_from, names_after, reply_after}
-use Rattle.rl_directory.specs.Laws.{NumbersStay, NumbersAreApart, NumbersAreBelow, FullIsReached, NamesAreInOrder}
+use Rattle.rl_directory.specs.Directory.{number_of, is_full, new_number, told, asked_by, named_by, after, names_from, names_after, reply_after}
+use Rattle.rl_directory.specs.Laws.{NumbersStay, NumbersAreApart, NumbersAreBelow, FullIsReached, FullIsAnswered, NamesAreInOrder}
 use Rattle.rl_directory.proofs.History.{from_appended}
 use Rattle.rl_directory.proofs.Keeping.{or_else, here, behind}
 
@@ -213,3 +213,14 @@ ordered_from names (event ∷ more) ordered = ordered_from (after names event) m
 pub names_are_in_order : NamesAreInOrder
 names_are_in_order past name number is =
     ap (λ (found : Option ℕ). asked_by found (names_after past)) (ordered_from [] past (λ name number h. cc) name number is)
+
+-- FULL
+
+new_is_full : (names : List (List ℕ)) (full : Bool) → is_full names ≡ full → length names ≡ MAX_CHANNELS → new_number names ≡ Full MAX_CHANNELS
+new_is_full names true is many = ap (λ (b : Bool). cond b (Full (length names)) (At (length names))) is ∙ ap (λ (n : ℕ). Full n) many
+new_is_full names false is many = let less : length names < MAX_CHANNELS = grind (arith, nat_tests) in absurd (omega (arith, less, many))
+
+pub full_is_answered : FullIsAnswered
+full_is_answered past name many new =
+    let names : List (List ℕ) = names_after past in
+    ap (λ (found : Option ℕ). asked_by found names) new ∙ new_is_full names (is_full names) refl many

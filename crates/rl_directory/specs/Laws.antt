@@ -28,6 +28,11 @@ pub record IsFullOf (past : List DirEvent) (name : List ℕ) (count : ℕ) : Typ
 abbrev pub FullIsReached : Type 0
 FullIsReached = (past : List DirEvent) (name : List ℕ) (count : ℕ) → reply_after past (Ask name) ≡ Full count → IsFullOf past name count
 
+-- and to each such name, where as many are there as may be
+abbrev pub FullIsAnswered : Type 0
+FullIsAnswered = (past : List DirEvent) (name : List ℕ)
+    → length (names_after past) ≡ MAX_CHANNELS → number_of name (names_after past) ≡ None → reply_after past (Ask name) ≡ Full MAX_CHANNELS
+
 -- the name at each place of the list of names is the one that has this number: so each stands once
 abbrev pub NamesAreInOrder : Type 0
 NamesAreInOrder = (past : List DirEvent) (name : List ℕ) (number : ℕ)

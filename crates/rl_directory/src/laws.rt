@@ -1,6 +1,6 @@
 //! Laws over the definitions of the directory alone: over every list of events.
 ghost use Rattle.rl_directory.specs.Examples.{Replies};
-ghost use Rattle.rl_directory.specs.Laws.{FullIsReached, NamesAreInOrder, NumbersAreApart, NumbersAreBelow, NumbersStay};
+ghost use Rattle.rl_directory.specs.Laws.{FullIsAnswered, FullIsReached, NamesAreInOrder, NumbersAreApart, NumbersAreBelow, NumbersStay};
 
 /// A number that was given to a name is given to it again, whatever comes between.
 #[tactic(auto, using(crate::proofs::DirectoryLaws::numbers_stay))]
@@ -24,6 +24,12 @@ pub fn numbers_are_below()
 #[tactic(auto, using(crate::proofs::DirectoryLaws::full_is_reached))]
 pub fn full_is_reached()
     ensures { FullIsReached }
+{}
+
+/// `Full` comes to each name that is not there, where [`MAX_CHANNELS`](rl_numbers::limits::MAX_CHANNELS) names are.
+#[tactic(auto, using(crate::proofs::DirectoryLaws::full_is_answered))]
+pub fn full_is_answered()
+    ensures { FullIsAnswered }
 {}
 
 /// `Names` has at each place the name with this number: so each name stands once.
