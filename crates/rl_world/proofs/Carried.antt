@@ -15,7 +15,7 @@ use Rattle.rl_types.specs.declared.frames.Frame.TheVariants as frames
 use Rattle.rl_numbers.specs.declared.limits.TheConstants.{MAX_FRAME_SIZE}
 use Rattle.rl_wire.specs.Texts.{frame_text}
 use Rattle.rl_wire.specs.Sendable.{IsSendable}
-use Rattle.rl_wire.specs.Sizes.{text_bytes, item_count, entry_count, cell_count, message_bytes}
+use Rattle.rl_wire.specs.Sizes.{text_bytes, item_count, object_count, entry_count, cell_count, message_bytes}
 use Rattle.rl_wire.proofs.TextLengths.{frame_length}
 use Rattle.rl_model.specs.declared.plain.Sent.{Sent}
 use Rattle.rl_model.specs.declared.plain.Sent.TheVariants.{Asks, Sends}
@@ -32,8 +32,9 @@ pub record IsCarried (frame : Frame) : Type 0 where
   pub short : length (frame_text frame) ≤ MAX_FRAME_SIZE
 
 -- a frame with few bytes and items, and with nothing of objects
-carried_by : (frame : Frame) → IsSendable frame → text_bytes frame ≤ 10000 → item_count frame ≤ 1 → entry_count frame ≡ 0 → cell_count frame ≡ 0 → IsCarried frame
-carried_by frame sendable bytes items entries cells = record { sendable = sendable; short = omega (arith, frame_length frame sendable, bytes, items, entries, cells) }
+carried_by : (frame : Frame) → IsSendable frame → text_bytes frame ≤ 10000 → item_count frame ≤ 1 → object_count frame ≡ 0 → entry_count frame ≡ 0 → cell_count frame ≡ 0 → IsCarried frame
+carried_by frame sendable bytes items objects entries cells =
+    record { sendable = sendable; short = omega (arith, frame_length frame sendable, bytes, items, objects, entries, cells) }
 
 -- WHAT THE CLIENT SENDS
 
@@ -45,15 +46,15 @@ item_small item small =
     omega (arith, small.id, small.payload, name, encoding, client)
 
 pub sent_carried : (channel : List ℕ) (sent : Sent) → IsChannelName channel → IsSmallSent sent → IsSentInRange sent → IsCarried (sent_frame channel sent)
-sent_carried channel (Asks None) name small range = carried_by (frames.Attach channel None) ((name.some, name.fits), tt) (omega (arith, name.fits)) (omega arith) refl refl
-sent_carried channel (Asks (Some (Ours serial))) name small range = carried_by (frames.Attach channel (Some (Ours serial))) ((name.some, name.fits), range) (omega (arith, name.fits)) (omega arith) refl refl
+sent_carried channel (Asks None) name small range = carried_by (frames.Attach channel None) ((name.some, name.fits), tt) (omega (arith, name.fits)) (omega arith) refl refl refl
+sent_carried channel (Asks (Some (Ours serial))) name small range = carried_by (frames.Attach channel (Some (Ours serial))) ((name.some, name.fits), range) (omega (arith, name.fits)) (omega arith) refl refl refl
 sent_carried channel (Asks (Some (Other text))) name small range = absurd small
 sent_carried channel (Sends serial (Messages [])) name small range = absurd small.1
 sent_carried channel (Sends serial (Messages (item ∷ []))) name small range =
     let one : sum_by message_bytes (item ∷ []) ≡ message_bytes item = omega arith in
     carried_by (frames.Message (publish_head channel serial) (item ∷ []))
     (((name.some, name.fits), omega (arith, small.0), tt, tt), omega arith, λ k d within none. refl)
-    (omega (arith, name.fits, one, item_small item small.1)) (omega arith) refl refl
+    (omega (arith, name.fits, one, item_small item small.1)) (omega arith) refl refl refl
 sent_carried channel (Sends serial (Messages (item ∷ next ∷ items))) name small range = absurd small.1
 sent_carried channel (Sends serial (Presence items)) name small range = absurd small.1
 sent_carried channel (Sends serial (Objects ops)) name small range = absurd small.1
@@ -75,7 +76,7 @@ entry_carried channel entry name small place stamp = of entry.body small
         let one : sum_by message_bytes (item ∷ []) ≡ message_bytes item = omega arith in
         carried_by (frames.Message (entry_head channel entry) (item ∷ []))
         (((name.some, name.fits), tt, (omega arith, place), stamp), omega arith, λ k d within none. refl)
-        (omega (arith, name.fits, one, item_small item own, conn_length entry.conn)) (omega arith) refl refl
+        (omega (arith, name.fits, one, item_small item own, conn_length entry.conn)) (omega arith) refl refl refl
     of (Messages (item ∷ next ∷ items)) own = absurd own
     of (Presence items) own = absurd own
     of (Objects ops) own = absurd own
@@ -93,7 +94,7 @@ entry_back channel entry = of entry.body
 pub attached_carried : (channel : List ℕ) (place : ℕ) (resumed presence given : Bool) → IsChannelName channel → place < 2 ^ 64 → IsCarried (attached_frame channel place resumed presence given)
 attached_carried channel place resumed presence given name fits =
     carried_by (attached_frame channel place resumed presence given) ((name.some, name.fits), (omega arith, fits), flags_small resumed presence, code_small given resumed)
-    (omega (arith, name.fits)) (omega arith) refl refl
+    (omega (arith, name.fits)) (omega arith) refl refl refl
   where
     flags_small : (resumed presence : Bool) → flags_of resumed presence < 2 ^ 64
     flags_small true true = omega arith
@@ -113,8 +114,8 @@ attached_back channel place false true given = refl
 attached_back channel place false false given = refl
 
 pub answer_carried : (serial : ℕ) (code : Option ℕ) → serial < 2 ^ 53 → IfSome code (λ c. c < 2 ^ 32) → IsCarried (answer_frame serial code)
-answer_carried serial None low fits = carried_by (frames.Ack serial 1) (omega (arith, low), (omega arith, omega arith)) (omega arith) (omega arith) refl refl
-answer_carried serial (Some code) low fits = carried_by (frames.Nack serial 1 code) (omega (arith, low), (omega arith, omega arith), fits) (omega arith) (omega arith) refl refl
+answer_carried serial None low fits = carried_by (frames.Ack serial 1) (omega (arith, low), (omega arith, omega arith)) (omega arith) (omega arith) refl refl refl
+answer_carried serial (Some code) low fits = carried_by (frames.Nack serial 1 code) (omega (arith, low), (omega arith, omega arith), fits) (omega arith) (omega arith) refl refl refl
 
 pub answer_back : (serial : ℕ) (code : Option ℕ) → answered_by (answer_frame serial code) ≡ Some (serial, code)
 answer_back serial None = refl
@@ -124,7 +125,7 @@ pub connected_carried : IsCarried connected_frame
 connected_carried =
     let mark : List ℕ = conn_text the_conn ++ codes "!" in
     carried_by connected_frame (omega arith, omega arith, omega arith, tt)
-    (omega (arith, conn_length the_conn, length-append (conn_text the_conn) (codes "!"), length-append mark (fixed_text 16 16 0), fixed_lengths 16 16 0 (fixed_text 16 16 0) refl)) (omega arith) refl refl
+    (omega (arith, conn_length the_conn, length-append (conn_text the_conn) (codes "!"), length-append mark (fixed_text 16 16 0), fixed_lengths 16 16 0 (fixed_text 16 16 0) refl)) (omega arith) refl refl refl
 
 -- WHAT ARRIVES
 
