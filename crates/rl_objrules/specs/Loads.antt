@@ -1,5 +1,5 @@
 -- What objects load a pool with, and objects beside their load.
-use Rattle.std.specs.Prelude.{◌≡◌, ℕ, ◌+◌, ◌<◌, ◌≤◌, ◌^◌, Bool, true, false, ◌||◌, nat_lt, List, is_some, sum_by}
+use Rattle.std.specs.Prelude.{◌≡◌, ℕ, ◌+◌, ◌-◌, ◌<◌, ◌≤◌, ◌^◌, Bool, true, false, ◌||◌, nat_le, nat_lt, List, is_some, sum_by}
 use Rattle.std.specs.Option.{option_map_or}
 use Rattle.rl_numbers.specs.declared.limits.TheConstants.{MAX_OBJECTS, MAX_MAP_CELLS, MAX_POOL_WEIGHT}
 use Rattle.rl_types.specs.Weight.{saturated, state_weight}
@@ -36,6 +36,14 @@ load_in pool = record { cells = sum_by held_cells pool; weight = sum_by held_wei
 -- numbers that stay at the greatest of 64 bits
 abbrev pub saturated_load : Load → Load
 saturated_load load = record { cells = saturated load.cells; weight = saturated load.weight }
+
+-- a number of a load is the greatest of 64 bits, or past it
+abbrev pub is_full : Load → Bool
+is_full load = nat_le (2 ^ 64) (load.cells + 1) || nat_le (2 ^ 64) (load.weight + 1)
+
+-- a load with more in place of less has a number that does not fit 64 bits
+abbrev pub is_past_range : Load → Load → Load → Bool
+is_past_range load less more = nat_le (2 ^ 64) ((load.cells - less.cells) + more.cells) || nat_le (2 ^ 64) ((load.weight - less.weight) + more.weight)
 
 -- no number of the one is greater than that of the other
 pub record IsUnder (less : Load) (load : Load) : Type 0 where

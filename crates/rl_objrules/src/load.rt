@@ -1,8 +1,8 @@
 // What objects load a pool with: how many cells they have, and what they weigh.
-ghost use Rattle.std.specs.Prelude.{◌≡◌, ◌+◌, ◌<◌, ◌≤◌, ◌^◌, IfOk, IfSome};
+ghost use Rattle.std.specs.Prelude.{◌≡◌, ◌+◌, ◌<◌, ◌≤◌, ◌^◌, ◌-◌, IfErr, IfNone, IfOk, IfSome, IsTrue};
 ghost use Rattle.rl_objmodel.specs.Held.{shown};
 ghost use Rattle.rl_objmodel.specs.Rules.{is_heavy};
-ghost use Rattle.rl_objrules.specs.Loads.{is_past_limits, load_in, load_of, saturated_load, IsExchanged, IsInRange, IsUnder};
+ghost use Rattle.rl_objrules.specs.Loads.{is_full, is_past_limits, is_past_range, load_in, load_of, saturated_load, IsExchanged, IsInRange, IsUnder};
 
 use rl_ids::{List, NoMemory};
 use rl_numbers::limits::{MAX_MAP_CELLS, MAX_OBJECT_WEIGHT, MAX_OBJECTS, MAX_POOL_WEIGHT};
@@ -74,10 +74,11 @@ pub fn load_fits(load: &Load)
     is_number(load.weight);
 }
 
-/// Objects with their load. `NoMemory`, where a number of it does not fit its type, drops them.
+/// Objects with their load. `NoMemory`, where a number of it is the greatest of its type or past it, drops them.
 pub fn shelf_of(objects: List<Object>) -> Result<Shelf, NoMemory>
     ensures objects { IfOk result (λ shelf. shelf.objects ≡ objects) }
     ensures load { IfOk result (λ shelf. shelf.load ≡ load_in objects) }
+    ensures full { IfErr result (λ _fault. IsTrue (is_full (load_in objects))) }
 {
     let load = all_load(objects.as_slice());
     if load.cells == u64::MAX || load.weight == u64::MAX {
@@ -89,7 +90,8 @@ pub fn shelf_of(objects: List<Object>) -> Result<Shelf, NoMemory>
 // A number with more in place of less, where it fits.
 fn exchanged_number(number: u64, less: u64, more: u64) -> Option<u64>
     requires { less ≤ number }
-    ensures { IfSome result (λ made. made + less ≡ number + more) }
+    ensures made { IfSome result (λ made. made + less ≡ number + more) }
+    ensures past { IfNone result (2 ^ 64 ≤ (number - less) + more) }
 {
     (number - less).checked_add(more)
 }
@@ -97,7 +99,8 @@ fn exchanged_number(number: u64, less: u64, more: u64) -> Option<u64>
 /// A load with more in place of less, where its numbers fit their type.
 pub fn exchanged(load: &Load, less: &Load, more: &Load) -> Option<Load>
     requires { IsUnder less.now load.now }
-    ensures { IfSome result (λ made. IsExchanged load.now less.now more.now made) }
+    ensures made { IfSome result (λ made. IsExchanged load.now less.now more.now made) }
+    ensures past { IfNone result (IsTrue (is_past_range load.now less.now more.now)) }
 {
     let cells = exchanged_number(load.cells, less.cells, more.cells)?;
     let weight = exchanged_number(load.weight, less.weight, more.weight)?;

@@ -10,4 +10,4 @@ returns-in-Some-clause-ok c =
     c.requires.place c.requires.sound c.in_ok-done.ensures.ok
     c.load_of-was.ensures (c.index-as_slice-at.is ∙ ap (λ (xs : List Held). get_or xs c.args.at c.index-as_slice-at.result) c.as_slice.ensures)
     c.load_of-is.ensures (c.index-as_slice-at-2.is ∙ ap (λ (xs : List Held). get_or xs c.args.at c.index-as_slice-at-2.result) c.as_slice-2.ensures)
-    c.in-Some.ensures
+    c.in-Some.ensures.made
