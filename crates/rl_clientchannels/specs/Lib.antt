@@ -1,0 +1,4 @@
+pub mod Turned
+pub mod Back
+pub mod Slots
+pub mod Changes
