@@ -63,7 +63,10 @@ fn publish_of(alloc: Global, rest: &str) -> Result<Command> {
 
 fn leave_of(alloc: Global, rest: &str) -> Result<Command> {
     let (channel, client) = split_two(rest)?;
-    Ok(Command::Leave(Text::from_str(alloc, channel)?, Text::from_str(alloc, client)?))
+    Ok(Command::Leave(
+        Text::from_str(alloc, channel)?,
+        Text::from_str(alloc, client)?,
+    ))
 }
 
 fn operate_of(alloc: Global, rest: &str) -> Result<Command> {

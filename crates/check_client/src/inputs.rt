@@ -58,14 +58,26 @@ fn long_bytes(alloc: Global, size: u64) -> Result<Vec<u8>> {
 
 // TWO STEPS IN ONE LINE
 
-fn push_act(alloc: Global, text: &mut String, client: &mut Client, command: &Command, now: Moment) -> Result<()> {
+fn push_act(
+    alloc: Global,
+    text: &mut String,
+    client: &mut Client,
+    command: &Command,
+    now: Moment,
+) -> Result<()> {
     match client.act(alloc, command, now) {
         Ok(output) => push_output(alloc, text, &output),
         Err(_) => Err(anyhow!("a command of several steps was refused")),
     }
 }
 
-fn push_heard(alloc: Global, text: &mut String, client: &mut Client, note: &str, now: Moment) -> Result<()> {
+fn push_heard(
+    alloc: Global,
+    text: &mut String,
+    client: &mut Client,
+    note: &str,
+    now: Moment,
+) -> Result<()> {
     let frame = expanded(alloc, note)?;
     match client.bytes(alloc, frame.as_bytes(), now) {
         Ok(output) => push_output(alloc, text, &output),
@@ -106,7 +118,13 @@ fn down(alloc: Global, client: &mut Client, now: Moment) -> Result<String> {
     word_text(alloc, "-")
 }
 
-fn command(alloc: Global, client: &mut Client, word: &str, rest: &str, now: Moment) -> Result<String> {
+fn command(
+    alloc: Global,
+    client: &mut Client,
+    word: &str,
+    rest: &str,
+    now: Moment,
+) -> Result<String> {
     let command = command_of(alloc, word, rest)?;
     act(alloc, client, &command, now)
 }
@@ -116,7 +134,12 @@ fn timed(alloc: Global, client: &mut Client, word: &str, rest: &str) -> Result<S
     match word {
         "bytes" => hear(alloc, client, rest.as_bytes(), now),
         "hex" => hear(alloc, client, hex_bytes(alloc, rest)?.as_slice(), now),
-        "long" => hear(alloc, client, long_bytes(alloc, number(rest)?)?.as_slice(), now),
+        "long" => hear(
+            alloc,
+            client,
+            long_bytes(alloc, number(rest)?)?.as_slice(),
+            now,
+        ),
         "down" => down(alloc, client, now),
         "tick" => tick(alloc, client, now),
         "online" => online(alloc, client, rest, now),

@@ -15,6 +15,7 @@ mod object_notes;
 mod objects;
 mod ops;
 mod outputs;
+mod sent_notes;
 mod states;
 mod views;
 mod words;

@@ -1,5 +1,6 @@
 // What stands short between `<` and `>` in a line, written out.
 use crate::object_notes::push_object_note;
+use crate::sent_notes::push_sent_note;
 use crate::words::{op_serial_of, serial_of, split_two};
 use anyhow::{Context, Result, anyhow};
 use rl_ids::{write_op_serial, write_serial};
@@ -63,6 +64,13 @@ fn push_item(alloc: Global, text: &mut String, action: u32, rest: &str) -> Resul
     Ok(())
 }
 
+fn push_other(alloc: Global, text: &mut String, word: &str, rest: &str) -> Result<()> {
+    if push_sent_note(alloc, text, word, rest)? || push_object_note(alloc, text, word, rest)? {
+        return Ok(());
+    }
+    Err(anyhow!("no note: {word}"))
+}
+
 // What is behind a word.
 fn push_named(alloc: Global, text: &mut String, word: &str, rest: &str) -> Result<()> {
     match word {
@@ -74,8 +82,7 @@ fn push_named(alloc: Global, text: &mut String, word: &str, rest: &str) -> Resul
         "enter" => push_item(alloc, text, 2, rest),
         "leave" => push_item(alloc, text, 3, rest),
         "update" => push_item(alloc, text, 4, rest),
-        _ if push_object_note(alloc, text, word, rest)? => Ok(()),
-        _ => Err(anyhow!("no note: {word}")),
+        _ => push_other(alloc, text, word, rest),
     }
 }
 

@@ -19,7 +19,9 @@ fn push_op(alloc: Global, text: &mut String, told: &str, serial: &str) -> Result
 fn push_make(alloc: Global, text: &mut String, rest: &str) -> Result<()> {
     let (id, rest) = split_two(rest)?;
     let (count, serial) = split_two(rest)?;
-    let told = format!(in alloc; "\"action\":3,\"counter\":{{\"count\":{count}}},\"objectId\":\"{id}\"")?;
+    let told = format!(in alloc;
+        "\"action\":3,\"counter\":{{\"count\":{count}}},\"objectId\":\"{id}\""
+    )?;
     push_op(alloc, text, told.as_str(), serial)
 }
 
@@ -27,7 +29,9 @@ fn push_make(alloc: Global, text: &mut String, rest: &str) -> Result<()> {
 fn push_inc(alloc: Global, text: &mut String, rest: &str) -> Result<()> {
     let (id, rest) = split_two(rest)?;
     let (amount, serial) = split_two(rest)?;
-    let told = format!(in alloc; "\"action\":4,\"counterOp\":{{\"amount\":{amount}}},\"objectId\":\"{id}\"")?;
+    let told = format!(in alloc;
+        "\"action\":4,\"counterOp\":{{\"amount\":{amount}}},\"objectId\":\"{id}\""
+    )?;
     push_op(alloc, text, told.as_str(), serial)
 }
 
@@ -46,7 +50,9 @@ fn push_set(alloc: Global, text: &mut String, rest: &str) -> Result<()> {
 fn push_remove(alloc: Global, text: &mut String, rest: &str) -> Result<()> {
     let (id, rest) = split_two(rest)?;
     let (key, serial) = split_two(rest)?;
-    let told = format!(in alloc; "\"action\":2,\"mapOp\":{{\"key\":\"{key}\"}},\"objectId\":\"{id}\"")?;
+    let told = format!(in alloc;
+        "\"action\":2,\"mapOp\":{{\"key\":\"{key}\"}},\"objectId\":\"{id}\""
+    )?;
     push_op(alloc, text, told.as_str(), serial)
 }
 

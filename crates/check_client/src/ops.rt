@@ -98,7 +98,10 @@ pub fn ops_of(alloc: Global, words: &str) -> Result<List<Op>> {
 // What is shown of an operation: its action, its object, and a key or a number.
 fn op_text(alloc: Global, op: &Op) -> Result<String> {
     match op {
-        Op::MapCreate { id, .. } => Ok(format!(in alloc; "makemap;{}", object_id_code(id).as_str())?),
+        Op::MapCreate { id, .. } => Ok(format!(in alloc;
+            "makemap;{}",
+            object_id_code(id).as_str()
+        )?),
         Op::MapSet { id, key, .. } => {
             Ok(format!(in alloc; "set;{};{}", object_id_code(id).as_str(), key.as_str())?)
         }

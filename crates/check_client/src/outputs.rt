@@ -8,6 +8,9 @@ use rl_types::{Frame, WireFault};
 use rl_wire::write_frame;
 use std::alloc::Global;
 
+// So many frames are shown whole.
+const SHOWN_FRAMES: usize = 12;
+
 fn push_frame(alloc: Global, text: &mut String, frame: &Frame) -> Result<()> {
     let written = String::from_utf8(write_frame(alloc, frame)?.into_vec())?;
     push_mark(text, " | ")?;
@@ -15,11 +18,29 @@ fn push_frame(alloc: Global, text: &mut String, frame: &Frame) -> Result<()> {
     Ok(())
 }
 
-/// Adds the frames that are sent, and `drop` where the link is to be dropped.
-pub fn push_output(alloc: Global, text: &mut String, output: &Output) -> Result<()> {
-    for frame in output.frames.as_slice() {
+// Of many frames how many they are, and the last one.
+fn push_many(alloc: Global, text: &mut String, frames: &[Frame]) -> Result<()> {
+    push_mark(text, " | ")?;
+    text.push_str(format!(in alloc; "{} frames to", frames.len())?.as_str())?;
+    match frames.last() {
+        Some(frame) => push_frame(alloc, text, frame),
+        None => Ok(()),
+    }
+}
+
+fn push_frames(alloc: Global, text: &mut String, frames: &[Frame]) -> Result<()> {
+    if frames.len() > SHOWN_FRAMES {
+        return push_many(alloc, text, frames);
+    }
+    for frame in frames {
         push_frame(alloc, text, frame)?;
     }
+    Ok(())
+}
+
+/// Adds the frames that are sent, and `drop` where the link is to be dropped.
+pub fn push_output(alloc: Global, text: &mut String, output: &Output) -> Result<()> {
+    push_frames(alloc, text, output.frames.as_slice())?;
     if output.drop_link {
         push_mark(text, " | ")?;
         text.push_str("drop")?;
