@@ -56,6 +56,16 @@ fn long_bytes(alloc: Global, size: u64) -> Result<Vec<u8>> {
     Ok(bytes)
 }
 
+fn hear_hex(alloc: Global, client: &mut Client, digits: &str, now: Moment) -> Result<String> {
+    let bytes = hex_bytes(alloc, digits)?;
+    hear(alloc, client, bytes.as_slice(), now)
+}
+
+fn hear_long(alloc: Global, client: &mut Client, size: &str, now: Moment) -> Result<String> {
+    let bytes = long_bytes(alloc, number(size)?)?;
+    hear(alloc, client, bytes.as_slice(), now)
+}
+
 // TWO STEPS IN ONE LINE
 
 fn push_act(
@@ -131,15 +141,11 @@ fn command(
 
 fn timed(alloc: Global, client: &mut Client, word: &str, rest: &str) -> Result<String> {
     let (now, rest) = split_moment(rest)?;
+    let now = Moment(now);
     match word {
         "bytes" => hear(alloc, client, rest.as_bytes(), now),
-        "hex" => hear(alloc, client, hex_bytes(alloc, rest)?.as_slice(), now),
-        "long" => hear(
-            alloc,
-            client,
-            long_bytes(alloc, number(rest)?)?.as_slice(),
-            now,
-        ),
+        "hex" => hear_hex(alloc, client, rest, now),
+        "long" => hear_long(alloc, client, rest, now),
         "down" => down(alloc, client, now),
         "tick" => tick(alloc, client, now),
         "online" => online(alloc, client, rest, now),
@@ -168,6 +174,7 @@ fn key(alloc: Global, client: &Client) -> Result<String> {
     }
 }
 
+#[tactic(auto, using(crate::proofs::Rises::names_rise))]
 fn recover(alloc: Global, client: &mut Client, text: &str) -> Result<String> {
     let Some(key) = read_recovery_key(alloc, text)? else {
         return word_text(alloc, "no key");

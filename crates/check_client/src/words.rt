@@ -1,6 +1,6 @@
 // Words and numbers of the table.
 use anyhow::{Context, Result};
-use rl_ids::{ChannelSerial, Epoch, Moment, OpSerial, Place, Text, read_site};
+use rl_ids::{ChannelSerial, Epoch, OpSerial, Place, Text, read_site};
 use std::alloc::Global;
 
 /// What stands before the first blank, and what after it.
@@ -17,11 +17,11 @@ pub fn number(word: &str) -> Result<u64> {
     Ok(word.parse::<u64>()?)
 }
 
-/// `@MOMENT`, and what stands after it.
-pub fn split_moment(rest: &str) -> Result<(Moment, &str)> {
+/// `@MOMENT`, in milliseconds, and what stands after it.
+pub fn split_moment(rest: &str) -> Result<(u64, &str)> {
     let (word, rest) = rest.split_once(' ').unwrap_or((rest, ""));
     let digits = word.strip_prefix('@').context("no moment")?;
-    Ok((Moment(number(digits)?), rest))
+    Ok((number(digits)?, rest))
 }
 
 /// `EPOCH:PLACE`, both as decimal numbers.
