@@ -210,7 +210,7 @@ answers_page (channel.Gone place) pages = refl
 answers_page channel.Ticked pages = refl
 answers_page (channel.Census first head members objects) pages = refl
 
-abbrev two_ends : Bool → Bool → Sequences → List Frame
+abbrev pub two_ends : Bool → Bool → Sequences → List Frame
 two_ends members objects pages =
     (if members then member_frame pages.channel (end_at pages.sequence) [] ∷ [] else [])
     ++ (if objects then object_frame pages.channel (end_at pages.sequence) [] ∷ [] else [])
@@ -321,7 +321,7 @@ free_is None (wishes.Put p holder number) h = cc
 free_is None (wishes.Finish p holder outcome) h = cc
 free_is (Some e) w h = cc
 
-abbrev rests_by : Bool → Bool → Bool → ℕ → State → State
+abbrev pub rests_by : Bool → Bool → Bool → ℕ → State → State
 rests_by free idle quiet now s = if free then (if idle then ended_by (ends.Idle s.last_in now) s else (if quiet then put frames.Heartbeat now s else s)) else s
 
 rest_keeps : (free idle quiet : Bool) (now : ℕ) (s : State) → (free ≡ true → owed s.wish ≡ []) → Keeps (owed s.wish) [] s (rests_by free idle quiet now s)

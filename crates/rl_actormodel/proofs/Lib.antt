@@ -5,3 +5,4 @@ pub mod Named
 pub mod Outbox
 pub mod Positions
 pub mod Silent
+pub mod Shown

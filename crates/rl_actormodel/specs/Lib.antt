@@ -19,3 +19,4 @@ pub mod PublishExamples
 pub mod SyncExamples
 pub mod MomentExamples
 pub mod SessionExamples
+pub mod Shows

@@ -1,6 +1,7 @@
 //! Laws over the definitions alone. Each is a function that does nothing: its contract is the law.
 ghost use Rattle.rl_actormodel.specs.Laws.{AnsweredInOrder, EndedIsSilent, FreeIsConnected, OutboxIsBounded};
 ghost use Rattle.rl_actormodel.specs.Positions.{PositionsAreKept};
+ghost use Rattle.rl_actormodel.specs.Shows.{EntriesAreThoseRead};
 ghost use Rattle.rl_actormodel.specs.Examples.{ShowsBadFrames, ShowsClose, ShowsOthers, ShowsStart};
 ghost use Rattle.rl_actormodel.specs.ChannelExamples.{ShowsAttach, ShowsAttachAgain, ShowsClientIds, ShowsDetach, ShowsPublish, ShowsSerials};
 ghost use Rattle.rl_actormodel.specs.MomentExamples.{ShowsLastIn, ShowsLastOut};
@@ -13,6 +14,13 @@ ghost use Rattle.rl_actormodel.specs.SyncExamples.{ShowsEnds, ShowsEndsInTime, S
 #[tactic(auto, using(crate::proofs::Answered::answered_in_order))]
 pub fn answered_in_order()
     ensures { AnsweredInOrder }
+{}
+
+/// The MESSAGEs, PRESENCEs and OBJECTs that an actor put out are the entries of the reads that were replied to it while it
+/// was not ended and the channel had a session, in order, each once (RTL7). What stands between them is of other kinds.
+#[tactic(auto, using(crate::proofs::Shown::entries_are_those_read))]
+pub fn entries_are_those_read()
+    ensures { EntriesAreThoseRead }
 {}
 
 /// An actor that is ended stays ended as it was, and puts out nothing more but what waited.
