@@ -17,6 +17,7 @@ use Rattle.rl_channel.specs.State as channels
 use Rattle.rl_channel.specs.State.{ChannelState}
 use Rattle.rl_world.specs.State.{WorldState, Rest, Shows, shown}
 use Rattle.rl_world.specs.Ready.{IsReadyFrom, MakesReady, TakesFrom, TakesSent}
+use Rattle.rl_world.specs.Serving.{AfterEach, StandsWith}
 use Rattle.rl_model.specs.Verdict.{log}
 use Rattle.rl_world.specs.Travels.{AllTravel, IsSmallWorld, IsSmallClient}
 use Rattle.rl_world.proofs.Small.{all_travel, all_served_small, small_taken, IsReadyClient, HasReadyClient}
@@ -88,7 +89,7 @@ took_one world event state machine entries is stands setup follow = record {
 
 -- a message that no client sent was put
 pub fed_one : (world : World) (state old : WorldState) (machine : ChannelState) (entries : List Entry) (serial : ℕ) (body given : Body) → state ≡ old → Shows old world → body ≡ given
-    → ((past : List ChannelEvent) → state.machine.setup.site ≡ the_site → channels.StandsAt the_site state.machine past → state.entries ≡ log the_site past → channels.StandsAt the_site machine (Put feed_conn serial body 0 ∷ past) × (entries ≡ log the_site (Put feed_conn serial body 0 ∷ past)))
+    → AfterEach state.machine state.entries (λ past. StandsWith machine entries (Put feed_conn serial body 0 ∷ past))
     → machine.setup ≡ state.machine.setup
     → Shows (record state { machine = machine; entries = entries; begun = true }) (record world { past = Put feed_conn serial given 0 ∷ world.past })
 fed_one world state old machine entries serial body given same is which_body puts setup =

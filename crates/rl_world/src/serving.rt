@@ -2,11 +2,9 @@ ghost use Rattle.std.specs.Prelude.{◌≡◌, ◌<◌, ◌^◌, ◌++◌, ◌�
 ghost use Rattle.std.specs.Option.{option_to_list};
 ghost use Rattle.rl_events.specs.declared.channel.ChannelEvent.{ChannelEvent};
 ghost use Rattle.rl_model.specs.Parts.{Parts, read_in};
-ghost use Rattle.rl_model.specs.Records.{the_site};
-ghost use Rattle.rl_model.specs.Verdict.{log};
 ghost use Rattle.rl_model.specs.World.{answer_of, one_message, the_conn, feed_conn};
 ghost use Rattle.rl_chanlog.specs.Keeps.{Keeps};
-ghost use Rattle.rl_channel.specs.State.{StandsAt};
+ghost use Rattle.rl_world.specs.Serving.{AfterEach, StandsWith};
 ghost use Rattle.rl_world.specs.Steps.{put_verdict};
 ghost use Rattle.rl_world.specs.Kept.{followed};
 ghost use Rattle.rl_world.specs.Ready.{acknowledgement};
@@ -64,10 +62,8 @@ fn put(
     serial: u64,
     body: Body,
 ) -> Result<Verdict, NoMemory>
-    ensures decided { IfOk result (λ answer. (past : List ChannelEvent) → machine.old.setup.site ≡ the_site → StandsAt the_site machine.old past → entries.old ≡ log the_site past →
-        (answer ≡ put_verdict past conn serial body)
-        × StandsAt the_site machine.new (ChannelEvent.Put conn serial body 0 ∷ past)
-        × (entries.new ≡ log the_site (ChannelEvent.Put conn serial body 0 ∷ past))) }
+    ensures decided { IfOk result (λ answer. AfterEach machine.old entries.old (λ past. answer ≡ put_verdict past conn serial body)) }
+    ensures stands { OnOk result (AfterEach machine.old entries.old (λ past. StandsWith machine.new entries.new (ChannelEvent.Put conn serial body 0 ∷ past))) }
     ensures setup { machine.new.setup ≡ machine.old.setup }
 {
     let answer = machine.put(alloc, conn, serial, body, Moment(0))?;
@@ -83,10 +79,9 @@ pub fn put_message(
     serial: u64,
     body: Body,
 ) -> Result<Option<Answer>, NoMemory>
-    ensures decided { IfOk result (λ answer. (past : List ChannelEvent) → serial < 2 ^ 53 → machine.old.setup.site ≡ the_site → StandsAt the_site machine.old past → entries.old ≡ log the_site past →
-        (option_to_list answer ≡ answer_of serial (put_verdict past the_conn serial body))
-        × StandsAt the_site machine.new (ChannelEvent.Put the_conn serial body 0 ∷ past)
-        × (entries.new ≡ log the_site (ChannelEvent.Put the_conn serial body 0 ∷ past))) }
+    ensures decided { IfOk result (λ answer. serial < 2 ^ 53 →
+        AfterEach machine.old entries.old (λ past. option_to_list answer ≡ answer_of serial (put_verdict past the_conn serial body))) }
+    ensures stands { OnOk result (AfterEach machine.old entries.old (λ past. StandsWith machine.new entries.new (ChannelEvent.Put the_conn serial body 0 ∷ past))) }
     ensures setup { machine.new.setup ≡ machine.old.setup }
 {
     match put(alloc, machine, entries, CLIENT, serial, body) {
@@ -105,9 +100,7 @@ pub fn put_fed(
     serial: u64,
     body: Body,
 ) -> Result<(), NoMemory>
-    ensures decided { OnOk result ((past : List ChannelEvent) → machine.old.setup.site ≡ the_site → StandsAt the_site machine.old past → entries.old ≡ log the_site past →
-        StandsAt the_site machine.new (ChannelEvent.Put feed_conn serial body 0 ∷ past)
-        × (entries.new ≡ log the_site (ChannelEvent.Put feed_conn serial body 0 ∷ past))) }
+    ensures stands { OnOk result (AfterEach machine.old entries.old (λ past. StandsWith machine.new entries.new (ChannelEvent.Put feed_conn serial body 0 ∷ past))) }
     ensures setup { machine.new.setup ≡ machine.old.setup }
 {
     match put(alloc, machine, entries, FEED, serial, body) {
