@@ -13,7 +13,7 @@ use std::alloc::Global;
 
 /// A client with the client id `me`.
 pub fn new_client(alloc: Global) -> Result<Client> {
-    Ok(Client::new(alloc, Text::from_str(alloc, "me")?)?)
+    Ok(Client::new(alloc, Text::from_str(alloc, "me")?))
 }
 
 fn word_text(alloc: Global, word: &str) -> Result<String> {

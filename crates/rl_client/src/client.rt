@@ -38,10 +38,10 @@ impl Model for Client {
 
 impl Client {
     /// A client with this client id, which has done nothing yet. It takes no memory.
-    pub fn new(alloc: Global, name: Text) -> Result<Client, NoMemory>
-        ensures { IfOk result (λ client. client ≡ new_state name) }
+    pub fn new(alloc: Global, name: Text) -> Client
+        ensures { result ≡ new_state name }
     {
-        Ok(Client {
+        Client {
             name,
             conn: ConnState::Initialized,
             from_suspended: false,
@@ -54,7 +54,7 @@ impl Client {
             left: None,
             connected_at: Moment(0),
             got_at: Moment(0),
-        })
+        }
     }
 
     /// What it brings when it connects (RTN15b, RTN16k): its client id, and the key where it holds one. `NoMemory` comes

@@ -2,6 +2,8 @@
 use rl_ids::NoMemory;
 use rl_runs::Stands;
 use rl_types::WireFault;
+use std::error::Error;
+use std::fmt;
 
 /// Why a command is not obeyed.
 #[derive(Clone, Copy, Debug)]
@@ -13,6 +15,24 @@ pub enum ActFault {
     /// There is no memory.
     NoMemory,
 }
+
+impl fmt::Display for ActFault {
+    ghost use Rattle.std.specs.Prelude.{Some};
+    ghost use Rattle.rl_client.specs.Words.{act_fault_text};
+
+    ghost output = { λ e. Some (act_fault_text e) };
+
+    fn fmt<W: fmt::Write>(&self, f: &mut fmt::Formatter<W>) -> fmt::Result {
+        match self {
+            ActFault::WrongState(Stands::Conn(state)) => write!(f, "the connection is {state}"),
+            ActFault::WrongState(Stands::Chan(state)) => write!(f, "the channel is {state}"),
+            ActFault::Full(pending) => write!(f, "the queue is full: {pending} frames are pending"),
+            ActFault::NoMemory => write!(f, "out of memory"),
+        }
+    }
+}
+
+impl Error for ActFault {}
 
 impl From<NoMemory> for ActFault {
     ghost use Rattle.std.specs.Prelude.{◌≡◌};
@@ -33,3 +53,19 @@ pub enum ClientFault {
     /// There is no memory.
     NoMemory,
 }
+
+impl fmt::Display for ClientFault {
+    ghost use Rattle.std.specs.Prelude.{Some};
+    ghost use Rattle.rl_client.specs.Words.{client_fault_text};
+
+    ghost output = { λ e. Some (client_fault_text e) };
+
+    fn fmt<W: fmt::Write>(&self, f: &mut fmt::Formatter<W>) -> fmt::Result {
+        match self {
+            ClientFault::BadFrame(fault) => write!(f, "{fault}"),
+            ClientFault::NoMemory => write!(f, "out of memory"),
+        }
+    }
+}
+
+impl Error for ClientFault {}

@@ -1,20 +1,20 @@
-ghost use Rattle.std.specs.Prelude.{◌≡◌, ◌≤◌, IfOk, OnOk, OnErr};
+ghost use Rattle.std.specs.Prelude.{◌≡◌, IfOk, IfSome, OnOk, OnErr};
 ghost use Rattle.rl_clientmodel.specs.Keys.{before_mark, key_with, may_recover, recovered, recovery_key, with_key};
-ghost use Rattle.rl_clientchannels.specs.Changes.{AreNames};
+ghost use Rattle.rl_client.specs.Keys.{MayBeTaken};
 
 use crate::Client;
 use rl_ackq::AckQueue;
 use rl_clientchannels::ClientChannels;
 use rl_connsm::{gives_recovery_key, may_recover};
 use rl_ids::{Copied, NoMemory, Text};
-use rl_numbers::limits::MAX_MESSAGE_SERIAL;
 use rl_runs::RecoveryKey;
 use std::alloc::Global;
 
 // Going on where another client stood (RTN16).
 impl Client {
     fn key_held(&self, alloc: Global) -> Result<Option<RecoveryKey>, NoMemory>
-        ensures { IfOk result (λ key. key ≡ key_with self.now.key self.now) }
+        ensures value { IfOk result (λ key. key ≡ key_with self.now.key self.now) }
+        ensures fits { IfOk result (λ key. IfSome key (λ given. MayBeTaken given)) }
     {
         let Some(key) = &self.key else {
             return Ok(None);
@@ -28,8 +28,10 @@ impl Client {
 
     /// With what another client can go on where this one stands (RTN16g): none exactly where no connection key is held, or
     /// the connection is CLOSING. It has the held serial of each channel that holds one, whatever the channel's state.
+    /// It is one that [`recover`](Client::recover) may be given.
     pub fn recovery_key(&self, alloc: Global) -> Result<Option<RecoveryKey>, NoMemory>
-        ensures { IfOk result (λ key. key ≡ recovery_key self.now) }
+        ensures value { IfOk result (λ key. key ≡ recovery_key self.now) }
+        ensures fits { IfOk result (λ key. IfSome key (λ given. MayBeTaken given)) }
     {
         if gives_recovery_key(self.conn) {
             return self.key_held(alloc);
@@ -47,8 +49,7 @@ impl Client {
     }
 
     fn go_on(&mut self, alloc: Global, key: &RecoveryKey) -> Result<(), NoMemory>
-        requires small { key.now.next ≤ MAX_MESSAGE_SERIAL }
-        requires rise { AreNames key.now.serials }
+        requires { MayBeTaken key.now }
         ensures new { OnOk result (self.new ≡ with_key key.now self.old) }
         ensures err { OnErr result (self.new ≡ self.old) }
     {
@@ -69,8 +70,7 @@ impl Client {
     /// false, and changes nothing, exactly where the client is not INITIALIZED, knows a channel, holds a key or has a
     /// pending frame. `NoMemory` leaves all as before.
     pub fn recover(&mut self, alloc: Global, key: &RecoveryKey) -> Result<bool, NoMemory>
-        requires small { key.now.next ≤ MAX_MESSAGE_SERIAL }
-        requires rise { AreNames key.now.serials }
+        requires { MayBeTaken key.now }
         ensures done { IfOk result (λ done. done ≡ may_recover self.old) }
         ensures new { OnOk result (self.new ≡ recovered key.now self.old) }
         ensures err { OnErr result (self.new ≡ self.old) }

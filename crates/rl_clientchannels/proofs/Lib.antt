@@ -4,3 +4,4 @@ pub mod Serials
 pub mod Turns
 pub mod Backs
 pub mod Answered
+pub mod Held

@@ -220,12 +220,13 @@ impl ClientChannels {
         Ok(views)
     }
 
-    /// The serials held, with the names of their channels, in order of name.
+    /// The serials held, with the names of their channels, which rise.
     pub fn serials(&self, alloc: Global) -> Result<List<(Text, ChannelSerial)>, NoMemory>
-        ensures { IfOk result (λ serials. serials ≡ filter_map serial_held self.now) }
+        ensures value { IfOk result (λ serials. serials ≡ filter_map serial_held self.now) }
+        ensures rise { IfOk result (λ serials. AreNames serials) }
     {
         let mut serials = List::new(alloc);
-        for (name, channel) in &self.channels {
+        for (name, channel) in self.channels.iter() {
             push_held(alloc, &mut serials, name, channel.held())?;
         }
         Ok(serials)
