@@ -133,7 +133,7 @@ fn publish(alloc: Global, client: &mut Client) -> Result<()> {
 
 // A connected client with what is planned.
 fn client_for(alloc: Global, plan: Plan) -> Result<Client> {
-    let mut client = Client::new(alloc, Text::from_str(alloc, "A")?)?;
+    let mut client = Client::new(alloc, Text::from_str(alloc, "A")?);
     connect(alloc, &mut client)?;
     match plan.work {
         Work::Made => {}
