@@ -1,0 +1,2 @@
+pub mod Put_back
+pub mod By_number

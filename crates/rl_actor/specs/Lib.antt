@@ -1,0 +1,5 @@
+pub mod Views
+pub mod Runs
+pub mod Numbered
+pub mod Joins
+pub mod Reads
