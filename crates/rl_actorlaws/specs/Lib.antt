@@ -1,1 +1,4 @@
+pub mod Carried
+pub mod Readable
+pub mod Shows
 pub mod Told
