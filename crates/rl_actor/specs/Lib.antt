@@ -1,5 +1,4 @@
 pub mod Views
 pub mod Runs
-pub mod Numbered
 pub mod Joins
 pub mod Reads

@@ -6,9 +6,8 @@ ghost use Rattle.rl_actormodel.specs.Reads as reads;
 ghost use Rattle.rl_actormodel.specs.State as state;
 ghost use Rattle.rl_actormodel.specs.Wishes as wishes;
 
-use crate::sessions::Sessions;
-use crate::views::{Concern, concern_of, reading_in};
 use rl_actormodel::{Holder, Session, Wish};
+use rl_actorparts::{Concern, Sessions, concern_of, reading_in};
 use rl_events::{BookEvent, Call, ChannelEvent, ChannelNo, DirEvent, End, Reply};
 use rl_ids::{Copied, Moment, NoMemory, Text};
 use rl_numbers::limits::{OUTBOX_ROOM, READ_ENTRIES};

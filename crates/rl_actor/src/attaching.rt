@@ -6,12 +6,12 @@ ghost use Rattle.rl_actormodel.specs.Replies as replies;
 ghost use Rattle.rl_actormodel.specs.State.{put, wishing};
 ghost use Rattle.rl_names.specs.Names.{with_entry};
 ghost use Rattle.rl_types.specs.declared.frames.Frame.TheVariants as frames;
+ghost use Rattle.rl_actorparts.specs.Views.{joining_as, numbering_as};
 ghost use Rattle.rl_actor.specs.Joins.{joined_but, numbered_but, numbered_next};
-ghost use Rattle.rl_actor.specs.Views.{joining_as, numbering_as};
 
 use crate::actor::Actor;
-use crate::views::{Joining, Numbering, joining_in, numbering_in};
 use rl_actormodel::{Asked, Session, Wish};
+use rl_actorparts::{Joining, Numbering, joining_in, numbering_in};
 use rl_events::{ChannelNo, Reply};
 use rl_ids::{Copied, Moment, NoMemory, Text};
 use rl_numbers::codes::{CHANNEL_LIMIT, NOT_RETAINED};

@@ -6,8 +6,8 @@ ghost use Rattle.rl_actormodel.specs.Replies as replies;
 ghost use Rattle.rl_actormodel.specs.State.{wishing};
 
 use crate::actor::Actor;
-use crate::views::{Opening, Resuming, Standing, opening_in, resuming_in, standing_in};
 use rl_actormodel::{Holder, Wish};
+use rl_actorparts::{Opening, Resuming, Standing, opening_in, resuming_in, standing_in};
 use rl_events::{End, Reply};
 use rl_ids::{Copied, Moment, NoMemory, Text, write_conn};
 use rl_numbers::codes::KEY_UNKNOWN;

@@ -14,10 +14,7 @@ mod ending;
 mod entries;
 mod publishing;
 mod reading;
-mod sessions;
-mod signing;
 mod taking;
-mod views;
 
 pub use actor::Actor;
 pub use taking::Came;

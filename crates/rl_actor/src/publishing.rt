@@ -8,10 +8,10 @@ ghost use Rattle.rl_actormodel.specs.State.{wishing};
 ghost use Rattle.rl_actor.specs.Joins.{put_next};
 
 use crate::actor::Actor;
-use crate::views::{
+use rl_actormodel::{Holder, Publish, Wish};
+use rl_actorparts::{
     Beginning, Numbering, Standing, beginning_in, numbering_in, outcome_of, standing_in, verdict_in,
 };
-use rl_actormodel::{Holder, Publish, Wish};
 use rl_events::{ChannelNo, End, Outcome, Reply, Verdict};
 use rl_ids::{Moment, NoMemory};
 use rl_numbers::codes::CHANNEL_LIMIT;

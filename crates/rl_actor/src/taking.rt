@@ -6,8 +6,8 @@ ghost use Rattle.rl_names.specs.Names.{at};
 ghost use Rattle.rl_actor.specs.Views.{came_as};
 
 use crate::actor::Actor;
-use crate::signing::{signed_items, signed_members};
 use rl_actormodel::{Asked, Holder, Publish, Wish};
+use rl_actorparts::{signed_items, signed_members};
 use rl_events::{ChannelNo, End};
 use rl_ids::{Blob, Moment, NoMemory, Text};
 use rl_types::{Body, Frame, Head};

@@ -1,0 +1,7 @@
+use Rattle.std.proofs.Common.{◌≡◌, map}
+use Rattle.rl_actormodel.specs.Takes.{signed}
+use Rattle.rl_actorparts.proofs.signing.signed_items.Given as goal
+
+-- the items so far are signed
+abbrev pub invariant-loop-item : goal.invariant-loop-item
+invariant-loop-item l = l.made ≡ map (signed l.who) l.yielded
