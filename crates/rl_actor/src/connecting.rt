@@ -4,6 +4,7 @@ ghost use Rattle.rl_actormodel.specs.declared.parts.Wish.TheVariants as wishes;
 ghost use Rattle.rl_actormodel.specs.Connects as connects;
 ghost use Rattle.rl_actormodel.specs.Replies as replies;
 ghost use Rattle.rl_actormodel.specs.State.{wishing};
+ghost use Rattle.rl_actorparts.specs.Views.{standing_as};
 
 use crate::actor::Actor;
 use rl_actormodel::{Holder, Wish};
@@ -116,17 +117,6 @@ impl Actor {
         ensures err { OnErr result (self.new ≡ wishing (wishes.Close holder) self.old) }
     {
         match standing_in(reply) {
-            Standing::Passed(newer) => {
-                self.end(End::Superseded {
-                    mine: holder.generation,
-                    newer,
-                });
-                Ok(())
-            }
-            Standing::Gone => {
-                self.end(End::Forgotten);
-                Ok(())
-            }
             Standing::Holds => match self.put(Frame::Closed, now) {
                 Ok(()) => {
                     self.end(End::Closed);
@@ -141,6 +131,26 @@ impl Actor {
                 self.wish = Wish::Close(holder);
                 Ok(())
             }
+            lost => {
+                self.let_go(holder, lost);
+                Ok(())
+            }
+        }
+    }
+
+    // An actor whose connection is no longer its own ends. (This project's own.)
+    pub(crate) fn let_go(&mut self, holder: Holder, found: Standing)
+        requires { self.old.ended ≡ None }
+        ensures { self.new ≡ connects.if_held holder (standing_as found) (λ s. s) self.old }
+    {
+        match found {
+            Standing::Passed(newer) => {
+                let mine = holder.generation;
+                self.end(End::Superseded { mine, newer });
+            }
+            Standing::Gone => self.end(End::Forgotten),
+            Standing::Holds => {}
+            Standing::Unsaid => {}
         }
     }
 }

@@ -154,17 +154,6 @@ impl Actor {
     {
         let kept = outcome;
         match standing_in(reply) {
-            Standing::Passed(newer) => {
-                self.end(End::Superseded {
-                    mine: holder.generation,
-                    newer,
-                });
-                Ok(())
-            }
-            Standing::Gone => {
-                self.end(End::Forgotten);
-                Ok(())
-            }
             Standing::Holds => match self.settle(&p, outcome, now) {
                 Ok(()) => Ok(()),
                 Err(fault) => {
@@ -174,6 +163,10 @@ impl Actor {
             },
             Standing::Unsaid => {
                 self.wish = Wish::Finish(p, holder, kept);
+                Ok(())
+            }
+            lost => {
+                self.let_go(holder, lost);
                 Ok(())
             }
         }
