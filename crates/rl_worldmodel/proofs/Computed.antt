@@ -1,0 +1,142 @@
+-- The examples are computed.
+use Rattle.std.proofs.Common.{refl}
+use Rattle.std.specs.Fmt.{digits}
+use Rattle.std.specs.Str.{is_utf8, chars}
+use lib.Utf8.{encode}
+use Rattle.rl_ids.specs.Objects.{object_id_of}
+use Rattle.rl_worldmodel.specs.RecordExamples.{RecordsShow}
+use Rattle.rl_worldmodel.specs.ConnectionExamples.{ConnectionsShow}
+use Rattle.rl_worldmodel.specs.AnswerExamples.{AnswersShow}
+use Rattle.rl_worldmodel.specs.MomentExamples.{MomentsShow}
+use Rattle.rl_worldmodel.specs.SyncExamples.{SyncsShow}
+use Rattle.rl_worldmodel.specs.Refusals.{RefusesLines}
+
+pub records_show : RecordsShow
+unfolding digits is_utf8 chars encode object_id_of
+records_show = record {
+  empty_prints = refl;
+  published_once_prints = refl;
+  went_on_prints = refl;
+  polled_then_settled_prints = refl;
+  recovered_within_prints = refl;
+  past_the_head_prints = refl;
+  at_the_head_prints = refl;
+  other_epoch_prints = refl;
+  held_of_another_run_prints = refl;
+  aged_prints = refl;
+  reads_sixteen_prints = refl;
+}
+
+pub connections_show : ConnectionsShow
+unfolding digits is_utf8 chars encode object_id_of
+connections_show = record {
+  answered_by_id_prints = refl;
+  superseded_prints = refl;
+  expired_prints = refl;
+  not_yet_expired_prints = refl;
+  came_back_prints = refl;
+  in_flight_prints = refl;
+  in_flight_held_prints = refl;
+  recovered_prints = refl;
+  recovers_serial_prints = refl;
+  queued_before_prints = refl;
+  starts_anew_prints = refl;
+  closes_prints = refl;
+  late_ack_prints = refl;
+}
+
+pub answers_show : AnswersShow
+unfolding digits is_utf8 chars encode object_id_of
+answers_show = record {
+  second_attach_prints = refl;
+  detaches_prints = refl;
+  crossing_prints = refl;
+  times_out_prints = refl;
+  is_suspended_again_prints = refl;
+}
+
+pub moments_show : MomentsShow
+unfolding digits is_utf8 chars encode object_id_of
+moments_show = record {
+  idles_prints = refl;
+  detached_idles_prints = refl;
+  listens_prints = refl;
+  quiet_prints = refl;
+  is_silent_prints = refl;
+  heartbeat_prints = refl;
+  is_past_ttl_prints = refl;
+  ttl_from_loss_prints = refl;
+}
+
+pub syncs_show : SyncsShow
+unfolding digits is_utf8 chars encode object_id_of
+syncs_show = record {
+  refused_once_prints = refl;
+  page_ahead_prints = refl;
+  older_item_prints = refl;
+  leaves_with_connection_prints = refl;
+  pages_apart_prints = refl;
+  number_rules_prints = refl;
+  end_page_waits_prints = refl;
+  end_page_comes_prints = refl;
+}
+
+pub refuses_lines : RefusesLines
+unfolding digits is_utf8 chars encode object_id_of
+refuses_lines = record {
+  undeclared = refl;
+  unknown = refl;
+  twice = refl;
+  recovers_none = refl;
+  missing = refl;
+  empty_text = refl;
+  trailing = refl;
+  leading = refl;
+  bad_name = refl;
+  long_name = refl;
+  no_transport = refl;
+  two_slashes = refl;
+  bad_id = refl;
+  bad_channel = refl;
+  bad_number = refl;
+  long_tick = refl;
+  too_many = refl;
+  none_fed = refl;
+  bad_object = refl;
+  bad_nonce = refl;
+  bad_whole = refl;
+  low_whole = refl;
+  bad_key = refl;
+  no_value = refl;
+  empty_value = refl;
+  empty_text_value = refl;
+  bad_bool = refl;
+  half_byte = refl;
+  upper_byte = refl;
+  no_byte = refl;
+  bad_ref = refl;
+  two_wholes = refl;
+  no_data = refl;
+  empty_data = refl;
+  bad_member = refl;
+  too_much = refl;
+  first_token = refl;
+  not_text = refl;
+  a_client_too_many = refl;
+  fed_too_much = refl;
+  no_race_line = refl;
+  order_first = refl;
+  race_lines = refl;
+  carriage_return = refl;
+  carriage_return_kept = refl;
+  minus = refl;
+  minus_zero = refl;
+  least = refl;
+  greatest = refl;
+  spaces = refl;
+  bytes = refl;
+  truth = refl;
+  ref = refl;
+  transport = refl;
+  made = refl;
+}

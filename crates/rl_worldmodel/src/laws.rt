@@ -1,0 +1,43 @@
+//! Laws over the definitions alone. Each is a function that does nothing: its contract is the law.
+ghost use Rattle.rl_worldmodel.specs.RecordExamples.{RecordsShow};
+ghost use Rattle.rl_worldmodel.specs.ConnectionExamples.{ConnectionsShow};
+ghost use Rattle.rl_worldmodel.specs.AnswerExamples.{AnswersShow};
+ghost use Rattle.rl_worldmodel.specs.MomentExamples.{MomentsShow};
+ghost use Rattle.rl_worldmodel.specs.SyncExamples.{SyncsShow};
+ghost use Rattle.rl_worldmodel.specs.Refusals.{RefusesLines};
+
+/// The reports of runs in which clients attach, drop and come back.
+#[tactic(auto, using(crate::proofs::Computed::records_show))]
+pub fn records_show()
+    ensures { RecordsShow }
+{}
+
+/// The reports of runs in which connections are lost, given up, taken over, closed and recovered.
+#[tactic(auto, using(crate::proofs::Computed::connections_show))]
+pub fn connections_show()
+    ensures { ConnectionsShow }
+{}
+
+/// The reports of runs in which answers cross, or come too late.
+#[tactic(auto, using(crate::proofs::Computed::answers_show))]
+pub fn answers_show()
+    ensures { AnswersShow }
+{}
+
+/// The reports of runs on both sides of each time limit.
+#[tactic(auto, using(crate::proofs::Computed::moments_show))]
+pub fn moments_show()
+    ensures { MomentsShow }
+{}
+
+/// The reports of runs with members and objects, and with the syncs by which they are told.
+#[tactic(auto, using(crate::proofs::Computed::syncs_show))]
+pub fn syncs_show()
+    ensures { SyncsShow }
+{}
+
+/// The first line of a script that is refused, and why; and what lines say.
+#[tactic(auto, using(crate::proofs::Computed::refuses_lines))]
+pub fn refuses_lines()
+    ensures { RefusesLines }
+{}
