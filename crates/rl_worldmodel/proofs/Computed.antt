@@ -9,6 +9,7 @@ use Rattle.rl_worldmodel.specs.ConnectionExamples.{ConnectionsShow}
 use Rattle.rl_worldmodel.specs.AnswerExamples.{AnswersShow}
 use Rattle.rl_worldmodel.specs.MomentExamples.{MomentsShow}
 use Rattle.rl_worldmodel.specs.SyncExamples.{SyncsShow}
+use Rattle.rl_worldmodel.specs.WorldExamples.{CutsTakeAway, CallsAreKept, PairsAreQueued, DirectoryIsFull, LinesDoNothing}
 use Rattle.rl_worldmodel.specs.Refusals.{RefusesLines}
 
 pub records_show : RecordsShow
@@ -139,4 +140,57 @@ refuses_lines = record {
   ref = refl;
   transport = refl;
   made = refl;
+}
+
+pub cuts_take_away : CutsTakeAway
+unfolding digits is_utf8 chars encode object_id_of
+cuts_take_away = record {
+  under_way = refl;
+  taken_away = refl;
+  lost = refl;
+  performed = refl;
+  joined_and_read_twice = refl;
+  read = refl;
+  not_read = refl;
+  not_paged = refl;
+  paged = refl;
+}
+
+pub calls_are_kept : CallsAreKept
+unfolding digits is_utf8 chars encode object_id_of
+calls_are_kept = record {
+  ends_superseded = refl;
+  two_joins = refl;
+}
+
+pub pairs_are_queued : PairsAreQueued
+unfolding digits is_utf8 chars encode object_id_of
+pairs_are_queued = record {
+  pairs = refl;
+  reaped = refl;
+  once = refl;
+  later = refl;
+  settled = refl;
+}
+
+pub directory_is_full : DirectoryIsFull
+unfolding digits is_utf8 chars encode object_id_of
+directory_is_full = record {
+  not_fed = refl;
+  known = refl;
+  failed = refl;
+  refused = refl;
+}
+
+pub lines_do_nothing : LinesDoNothing
+unfolding digits is_utf8 chars encode object_id_of
+lines_do_nothing = record {
+  connects = refl;
+  declared_once = refl;
+  undeclared = refl;
+  no_transport = refl;
+  no_session = refl;
+  no_channel = refl;
+  not_known = refl;
+  no_key = refl;
 }

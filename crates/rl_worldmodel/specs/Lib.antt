@@ -15,4 +15,5 @@ pub mod ConnectionExamples
 pub mod AnswerExamples
 pub mod MomentExamples
 pub mod SyncExamples
+pub mod WorldExamples
 pub mod Refusals

@@ -4,6 +4,7 @@ ghost use Rattle.rl_worldmodel.specs.ConnectionExamples.{ConnectionsShow};
 ghost use Rattle.rl_worldmodel.specs.AnswerExamples.{AnswersShow};
 ghost use Rattle.rl_worldmodel.specs.MomentExamples.{MomentsShow};
 ghost use Rattle.rl_worldmodel.specs.SyncExamples.{SyncsShow};
+ghost use Rattle.rl_worldmodel.specs.WorldExamples.{CutsTakeAway, CallsAreKept, PairsAreQueued, DirectoryIsFull, LinesDoNothing};
 ghost use Rattle.rl_worldmodel.specs.Refusals.{RefusesLines};
 
 /// The reports of runs in which clients attach, drop and come back.
@@ -40,4 +41,34 @@ pub fn syncs_show()
 #[tactic(auto, using(crate::proofs::Computed::refuses_lines))]
 pub fn refuses_lines()
     ensures { RefusesLines }
+{}
+
+/// What a cut takes away, and what is lost on a transport that is cut.
+#[tactic(auto, using(crate::proofs::Computed::cuts_take_away))]
+pub fn cuts_take_away()
+    ensures { CutsTakeAway }
+{}
+
+/// Which calls are an actor's, and how actors end.
+#[tactic(auto, using(crate::proofs::Computed::calls_are_kept))]
+pub fn calls_are_kept()
+    ensures { CallsAreKept }
+{}
+
+/// The pairs of connections that are given up with channels, in order.
+#[tactic(auto, using(crate::proofs::Computed::pairs_are_queued))]
+pub fn pairs_are_queued()
+    ensures { PairsAreQueued }
+{}
+
+/// A directory that is full: what is fed, attached and published then.
+#[tactic(auto, using(crate::proofs::Computed::directory_is_full))]
+pub fn directory_is_full()
+    ensures { DirectoryIsFull }
+{}
+
+/// Lines that do nothing, since what they name is not there.
+#[tactic(auto, using(crate::proofs::Computed::lines_do_nothing))]
+pub fn lines_do_nothing()
+    ensures { LinesDoNothing }
 {}
