@@ -6,6 +6,7 @@ pub mod Services
 pub mod Actions
 pub mod Settling
 pub mod Lines
+pub mod Acting
 pub mod Findings
 pub mod Tokens
 pub mod Script

@@ -1,4 +1,5 @@
 //! Laws over the definitions alone. Each is a function that does nothing: its contract is the law.
+ghost use Rattle.rl_worldmodel.specs.Acting.{LinesAct, ScriptsAct};
 ghost use Rattle.rl_worldmodel.specs.RecordExamples.{RecordsShow};
 ghost use Rattle.rl_worldmodel.specs.ConnectionExamples.{ConnectionsShow};
 ghost use Rattle.rl_worldmodel.specs.AnswerExamples.{AnswersShow};
@@ -6,6 +7,18 @@ ghost use Rattle.rl_worldmodel.specs.MomentExamples.{MomentsShow};
 ghost use Rattle.rl_worldmodel.specs.SyncExamples.{SyncsShow};
 ghost use Rattle.rl_worldmodel.specs.WorldExamples.{CutsTakeAway, CallsAreKept, PairsAreQueued, DirectoryIsFull, LinesDoNothing};
 ghost use Rattle.rl_worldmodel.specs.Refusals.{RefusesLines};
+
+/// Whatever a line does, from whatever world, is done by actions, one after another.
+#[tactic(auto, using(crate::proofs::Acting::lines_act))]
+pub fn lines_act()
+    ensures { LinesAct }
+{}
+
+/// Whatever a script does, from the empty world, is done by actions. So what every action keeps holds of every script.
+#[tactic(auto, using(crate::proofs::Acting::scripts_act))]
+pub fn scripts_act()
+    ensures { ScriptsAct }
+{}
 
 /// The reports of runs in which clients attach, drop and come back.
 #[tactic(auto, using(crate::proofs::Computed::records_show))]
