@@ -9,6 +9,7 @@ use Rattle.rl_worldmodel.specs.ConnectionExamples.{ConnectionsShow}
 use Rattle.rl_worldmodel.specs.AnswerExamples.{AnswersShow}
 use Rattle.rl_worldmodel.specs.MomentExamples.{MomentsShow}
 use Rattle.rl_worldmodel.specs.SyncExamples.{SyncsShow}
+use Rattle.rl_worldmodel.specs.SessionExample.{SessionShows}
 use Rattle.rl_worldmodel.specs.WorldExamples.{CutsTakeAway, CallsAreKept, PairsAreQueued, DirectoryIsFull, LinesDoNothing}
 use Rattle.rl_worldmodel.specs.Refusals.{RefusesLines}
 
@@ -76,10 +77,17 @@ syncs_show = record {
   page_ahead_prints = refl;
   older_item_prints = refl;
   leaves_with_connection_prints = refl;
+  leaves_later_prints = refl;
   pages_apart_prints = refl;
   number_rules_prints = refl;
   end_page_waits_prints = refl;
   end_page_comes_prints = refl;
+}
+
+pub session_shows : SessionShows
+unfolding digits is_utf8 chars encode object_id_of
+session_shows = record {
+  session_prints = refl;
 }
 
 pub refuses_lines : RefusesLines

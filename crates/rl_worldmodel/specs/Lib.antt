@@ -16,5 +16,6 @@ pub mod ConnectionExamples
 pub mod AnswerExamples
 pub mod MomentExamples
 pub mod SyncExamples
+pub mod SessionExample
 pub mod WorldExamples
 pub mod Refusals

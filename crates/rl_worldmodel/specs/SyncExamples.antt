@@ -122,6 +122,36 @@ leaves_with_connection_report =
     ++ codes "map root 0\n"
     ++ codes "end\n"
 
+-- a member leaves at the moment at which its channel is told
+abbrev pub leaves_later : List ℕ
+leaves_later =
+    codes "client A\nclient B\nopen A\nopen B\nattach A room\nattach B room\nsettle\nenter A room a x\nsettle\n"
+    ++ codes "tick 5\nclose A\nsettle\nexpire\ntick 2\nsettle\n"
+
+abbrev pub leaves_later_report : List ℕ
+leaves_later_report =
+    codes "report\n"
+    ++ codes "channel room first 1 head 2\n"
+    ++ codes "entry 1 0 c00000001 0 presence | enter \"a\" \"x\"\n"
+    ++ codes "entry 2 7 c00000001 - presence | leave \"a\" -\n"
+    ++ codes "client A closed - pending 0 dropped 0\n"
+    ++ codes "ack c00000001 0\n"
+    ++ codes "record room detached -\n"
+    ++ codes "segment 0 opened\n"
+    ++ codes "got 1 presence | enter \"a\" \"x\"\n"
+    ++ codes "members room no\n"
+    ++ codes "objects room no\n"
+    ++ codes "map root 0\n"
+    ++ codes "client B connected c00000002 pending 0 dropped 0\n"
+    ++ codes "record room attached 2\n"
+    ++ codes "segment 0 opened\n"
+    ++ codes "got 1 presence | enter \"a\" \"x\"\n"
+    ++ codes "got 2 presence | leave \"a\" -\n"
+    ++ codes "members room yes\n"
+    ++ codes "objects room yes\n"
+    ++ codes "map root 0\n"
+    ++ codes "end\n"
+
 -- two pages of objects with operations between them: one that the second page shows already is passed over
 abbrev pub pages_apart : List ℕ
 pages_apart =
@@ -374,6 +404,7 @@ pub record SyncsShow : Type 0 where
   pub page_ahead_prints : report_of page_ahead ≡ Ok page_ahead_report
   pub older_item_prints : report_of older_item ≡ Ok older_item_report
   pub leaves_with_connection_prints : report_of leaves_with_connection ≡ Ok leaves_with_connection_report
+  pub leaves_later_prints : report_of leaves_later ≡ Ok leaves_later_report
   pub pages_apart_prints : report_of pages_apart ≡ Ok pages_apart_report
   pub number_rules_prints : report_of number_rules ≡ Ok number_rules_report
   pub end_page_waits_prints : report_of end_page_waits ≡ Ok end_page_waits_report

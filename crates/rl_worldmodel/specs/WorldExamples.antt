@@ -17,7 +17,7 @@ use Rattle.rl_events.specs.declared.calls.End.TheVariants.{Superseded}
 use Rattle.rl_names.specs.Names.{at}
 use Rattle.rl_clientmodel.specs.Channels.{ClientChannel}
 use Rattle.rl_clientmodel.specs.States.{ClientState}
-use Rattle.rl_worldmodel.specs.World.{World, Way, Transport, Made, empty_world, client_at, history}
+use Rattle.rl_worldmodel.specs.World.{World, Way, Made, empty_world, client_at, history}
 use Rattle.rl_worldmodel.specs.Lines.{final, after_lines}
 use Rattle.rl_worldmodel.specs.Script.{script_of, one_item, Refusal}
 use Rattle.rl_worldmodel.specs.ConnectionExamples.{superseded}

@@ -5,6 +5,7 @@ ghost use Rattle.rl_worldmodel.specs.ConnectionExamples.{ConnectionsShow};
 ghost use Rattle.rl_worldmodel.specs.AnswerExamples.{AnswersShow};
 ghost use Rattle.rl_worldmodel.specs.MomentExamples.{MomentsShow};
 ghost use Rattle.rl_worldmodel.specs.SyncExamples.{SyncsShow};
+ghost use Rattle.rl_worldmodel.specs.SessionExample.{SessionShows};
 ghost use Rattle.rl_worldmodel.specs.WorldExamples.{CutsTakeAway, CallsAreKept, PairsAreQueued, DirectoryIsFull, LinesDoNothing};
 ghost use Rattle.rl_worldmodel.specs.Refusals.{RefusesLines};
 
@@ -54,6 +55,12 @@ pub fn syncs_show()
 #[tactic(auto, using(crate::proofs::Computed::refuses_lines))]
 pub fn refuses_lines()
     ensures { RefusesLines }
+{}
+
+/// The report of a whole session of four clients.
+#[tactic(auto, using(crate::proofs::Computed::session_shows))]
+pub fn session_shows()
+    ensures { SessionShows }
 {}
 
 /// What a cut takes away, and what is lost on a transport that is cut.
