@@ -55,6 +55,8 @@ answers_show = record {
   crossing_prints = refl;
   times_out_prints = refl;
   is_suspended_again_prints = refl;
+  answered_anew_prints = refl;
+  cut_in_flight_prints = refl;
 }
 
 pub moments_show : MomentsShow

@@ -99,9 +99,48 @@ is_suspended_again_report =
     ++ codes "map root 0\n"
     ++ codes "end\n"
 
+-- an ATTACH was given up before its answer came: the next one begins a session where it is told
+abbrev pub answered_anew : List ℕ
+answered_anew =
+    codes "client A\nopen A\nsettle\nattach A room\nstep A\nstep A\nstep A\nfeed room 1 x\ntick 10000\n"
+    ++ codes "timer A\nfeed room 1 y\nattach A room\nsettle\n"
+
+abbrev pub answered_anew_report : List ℕ
+answered_anew_report =
+    codes "report\n"
+    ++ codes "channel room first 1 head 2\n"
+    ++ codes "entry 1 0 c00000000 0 message | \"c00000000:0:0\" - \"x\"\n"
+    ++ codes "entry 2 10000 c00000000 1 message | \"c00000000:1:0\" - \"y\"\n"
+    ++ codes "client A connected c00000001 pending 0 dropped 0\n"
+    ++ codes "record room attached 2\n"
+    ++ codes "segment 2 opened\n"
+    ++ codes "members room yes\n"
+    ++ codes "objects room yes\n"
+    ++ codes "map root 0\n"
+    ++ codes "end\n"
+
+-- an ATTACH that was under way at a cut is lost, and only the one on the new link is answered
+abbrev pub cut_in_flight : List ℕ
+cut_in_flight =
+    codes "client A\nopen A\nsettle\nattach A room\ncut A\nopen A\nsettle\n"
+
+abbrev pub cut_in_flight_report : List ℕ
+cut_in_flight_report =
+    codes "report\n"
+    ++ codes "channel room first 1 head 0\n"
+    ++ codes "client A connected c00000001 pending 0 dropped 0\n"
+    ++ codes "record room attached 0\n"
+    ++ codes "segment 0 opened\n"
+    ++ codes "members room yes\n"
+    ++ codes "objects room yes\n"
+    ++ codes "map root 0\n"
+    ++ codes "end\n"
+
 pub record AnswersShow : Type 0 where
   pub second_attach_prints : report_of second_attach ≡ Ok second_attach_report
   pub detaches_prints : report_of detaches ≡ Ok detaches_report
   pub crossing_prints : report_of crossing ≡ Ok crossing_report
   pub times_out_prints : report_of times_out ≡ Ok times_out_report
   pub is_suspended_again_prints : report_of is_suspended_again ≡ Ok is_suspended_again_report
+  pub answered_anew_prints : report_of answered_anew ≡ Ok answered_anew_report
+  pub cut_in_flight_prints : report_of cut_in_flight ≡ Ok cut_in_flight_report
