@@ -10,7 +10,7 @@ use Rattle.rl_worldmodel.specs.AnswerExamples.{AnswersShow}
 use Rattle.rl_worldmodel.specs.MomentExamples.{MomentsShow}
 use Rattle.rl_worldmodel.specs.SyncExamples.{SyncsShow}
 use Rattle.rl_worldmodel.specs.SessionExample.{SessionShows}
-use Rattle.rl_worldmodel.specs.WorldExamples.{CutsTakeAway, CallsAreKept, PairsAreQueued, DirectoryIsFull, LinesDoNothing}
+use Rattle.rl_worldmodel.specs.WorldExamples.{CutsTakeAway, CallsAreKept, RoundsGoOn, PairsAreQueued, DirectoryIsFull, LinesDoNothing}
 use Rattle.rl_worldmodel.specs.Refusals.{RefusesLines}
 
 pub records_show : RecordsShow
@@ -70,6 +70,12 @@ moments_show = record {
   heartbeat_prints = refl;
   is_past_ttl_prints = refl;
   ttl_from_loss_prints = refl;
+  not_idle_yet_prints = refl;
+  idle_then_prints = refl;
+  begins_late_prints = refl;
+  lost_later_prints = refl;
+  suspended_later_prints = refl;
+  drops_link_prints = refl;
 }
 
 pub syncs_show : SyncsShow
@@ -171,6 +177,15 @@ unfolding digits is_utf8 chars encode object_id_of
 calls_are_kept = record {
   ends_superseded = refl;
   two_joins = refl;
+}
+
+pub rounds_go_on : RoundsGoOn
+unfolding digits is_utf8 chars encode object_id_of
+rounds_go_on = record {
+  pages_then_reads = refl;
+  all_got = refl;
+  no_heartbeat = refl;
+  one_heartbeat = refl;
 }
 
 pub pairs_are_queued : PairsAreQueued

@@ -106,6 +106,86 @@ ttl_from_loss_report =
     ++ codes "client A suspended - pending 0 dropped 0\n"
     ++ codes "end\n"
 
+-- the last frame that was taken up counts for being idle, and ten minutes are not over
+abbrev pub not_idle_yet : List ℕ
+not_idle_yet =
+    codes "client A\nopen A\nsettle\ntick 300000\nattach A room\nsettle\ndetach A room\nsettle\ntick 599999\n"
+    ++ codes "step A\nget A\n"
+
+abbrev pub not_idle_yet_report : List ℕ
+not_idle_yet_report =
+    codes "report\n"
+    ++ codes "channel room first 1 head 0\n"
+    ++ codes "client A connected c00000001 pending 0 dropped 0\n"
+    ++ codes "record room detached -\n"
+    ++ codes "segment 0 opened\n"
+    ++ codes "members room no\n"
+    ++ codes "objects room no\n"
+    ++ codes "map root 0\n"
+    ++ codes "end\n"
+
+-- one millisecond later they are
+abbrev pub idle_then : List ℕ
+idle_then =
+    codes "client A\nopen A\nsettle\ntick 300000\nattach A room\nsettle\ndetach A room\nsettle\ntick 599999\n"
+    ++ codes "step A\nget A\ntick 1\nstep A\nget A\n"
+
+abbrev pub idle_then_report : List ℕ
+idle_then_report =
+    codes "report\n"
+    ++ codes "channel room first 1 head 0\n"
+    ++ codes "client A disconnected c00000001 pending 0 dropped 0\n"
+    ++ codes "record room detached -\n"
+    ++ codes "segment 0 opened\n"
+    ++ codes "members room no\n"
+    ++ codes "objects room no\n"
+    ++ codes "map root 0\n"
+    ++ codes "end\n"
+
+-- a session that begins late is not idle
+abbrev pub begins_late : List ℕ
+begins_late =
+    codes "client A\ntick 600000\nopen A\nsettle\n"
+
+abbrev pub begins_late_report : List ℕ
+begins_late_report =
+    codes "report\n"
+    ++ codes "client A connected c00000001 pending 0 dropped 0\n"
+    ++ codes "end\n"
+
+-- two minutes count from the loss
+abbrev pub lost_later : List ℕ
+lost_later =
+    codes "client A\nopen A\nsettle\ntick 50000\ncut A\ntick 119999\ntimer A\n"
+
+abbrev pub lost_later_report : List ℕ
+lost_later_report =
+    codes "report\n"
+    ++ codes "client A disconnected c00000001 pending 0 dropped 0\n"
+    ++ codes "end\n"
+
+-- and are over then
+abbrev pub suspended_later : List ℕ
+suspended_later =
+    codes "client A\nopen A\nsettle\ntick 50000\ncut A\ntick 120000\ntimer A\n"
+
+abbrev pub suspended_later_report : List ℕ
+suspended_later_report =
+    codes "report\n"
+    ++ codes "client A suspended - pending 0 dropped 0\n"
+    ++ codes "end\n"
+
+-- a link that its client gives up is cut, and the service notices
+abbrev pub drops_link : List ℕ
+drops_link =
+    codes "client A\nopen A\nsettle\ntick 25000\ntimer A\nstep A\nstep A\ntick 120000\nexpire\nopen A\nsettle\n"
+
+abbrev pub drops_link_report : List ℕ
+drops_link_report =
+    codes "report\n"
+    ++ codes "client A connected c00000002 pending 0 dropped 0\n"
+    ++ codes "end\n"
+
 pub record MomentsShow : Type 0 where
   pub idles_prints : report_of idles ≡ Ok idles_report
   pub detached_idles_prints : report_of detached_idles ≡ Ok detached_idles_report
@@ -115,3 +195,9 @@ pub record MomentsShow : Type 0 where
   pub heartbeat_prints : report_of heartbeat ≡ Ok heartbeat_report
   pub is_past_ttl_prints : report_of is_past_ttl ≡ Ok is_past_ttl_report
   pub ttl_from_loss_prints : report_of ttl_from_loss ≡ Ok ttl_from_loss_report
+  pub not_idle_yet_prints : report_of not_idle_yet ≡ Ok not_idle_yet_report
+  pub idle_then_prints : report_of idle_then ≡ Ok idle_then_report
+  pub begins_late_prints : report_of begins_late ≡ Ok begins_late_report
+  pub lost_later_prints : report_of lost_later ≡ Ok lost_later_report
+  pub suspended_later_prints : report_of suspended_later ≡ Ok suspended_later_report
+  pub drops_link_prints : report_of drops_link ≡ Ok drops_link_report

@@ -1,5 +1,7 @@
 -- Small worlds that are known, beside what a report shows of them.
 use Rattle.std.specs.Prelude.{ℕ, ◌≡◌, Bool, true, false, List, [], ◌∷◌, ◌++◌, length, map, filter, replicate, Option, Some, None, Result, Ok, Err, codes}
+use Rattle.rl_ids.specs.declared.serials.ChannelSerial.{ChannelSerial}
+use Rattle.rl_types.specs.declared.messages.Given.TheVariants.{Ours}
 use Rattle.rl_types.specs.declared.states.ChanState.{ChanState}
 use Rattle.rl_types.specs.declared.states.ChanState.TheVariants as chan
 use Rattle.rl_runs.specs.declared.commands.Command.TheVariants.{Connect, Attach, Publish}
@@ -8,7 +10,7 @@ use Rattle.rl_runs.specs.declared.findings.Answer.TheVariants.{Nack}
 use Rattle.rl_runs.specs.declared.script.Line.{Line}
 use Rattle.rl_runs.specs.declared.script.Line.TheVariants.{Client, Open, Act, Feed, Settle}
 use Rattle.rl_events.specs.declared.book.BookEvent.TheVariants as book
-use Rattle.rl_events.specs.declared.channel.ChannelEvent.TheVariants.{Join}
+use Rattle.rl_events.specs.declared.channel.ChannelEvent.TheVariants.{Join, Read, MemberPage, ObjectPage}
 use Rattle.rl_events.specs.declared.calls.Call.{Call}
 use Rattle.rl_events.specs.declared.calls.Call.TheVariants.{Book, Dir, Chan}
 use Rattle.rl_events.specs.declared.calls.DirEvent.TheVariants.{Ask}
@@ -95,6 +97,37 @@ pub record CallsAreKept : Type 0 where
   pub ends_superseded : ends superseded ≡ Some (Superseded 1 2) ∷ None ∷ []
   -- two ATTACHs of one client are two Joins; between them the channel was read once
   pub two_joins : joins second_attach ≡ (record { call = Chan 0 (Join None); before = 2 } ∷ record { call = Chan 0 (Join None); before = 0 } ∷ []) ∷ []
+
+-- the calls that each actor made on channels, the latest first
+abbrev pub is_on_channel : Call → Bool
+is_on_channel (Chan number event) = true
+is_on_channel call = false
+
+abbrev pub channel_calls : List ℕ → List (List Made)
+channel_calls bytes = map (λ made. filter (λ m. is_on_channel m.call) made) (calls bytes)
+
+-- a client attaches at place 0 of a log of one entry
+abbrev pub synced : List ℕ
+synced = codes "feed room 1 x\nclient A\nopen A\nattachat A room 1 0\nsettle\n"
+
+abbrev pub from_start : ChannelSerial
+from_start = record { epoch = 1; place = 0 }
+
+pub record RoundsGoOn : Type 0 where
+  -- in each round a page is asked for, and then the channel is read; in the last one nothing is carried on
+  pub pages_then_reads : channel_calls synced ≡
+      (record { call = Chan 0 (Read 1 16); before = 6 }
+      ∷ record { call = Chan 0 (Read 1 16); before = 5 }
+      ∷ record { call = Chan 0 (ObjectPage None 4); before = 4 }
+      ∷ record { call = Chan 0 (Read 0 16); before = 3 }
+      ∷ record { call = Chan 0 (MemberPage None 64); before = 2 }
+      ∷ record { call = Chan 0 (Join (Some (Ours from_start))); before = 1 }
+      ∷ []) ∷ []
+  -- CONNECTED, ATTACHED, a page of members, the entry, a page of objects, two end pages
+  pub all_got : ways synced ≡ ((1, 1), (7, 7)) ∷ []
+  -- what was put out just now is followed by no HEARTBEAT
+  pub no_heartbeat : ways (codes "client A\nopen A\nsettle\ntick 10000\nattach A room\nsettle\n") ≡ ((1, 1), (2, 2)) ∷ []
+  pub one_heartbeat : ways (codes "client A\nopen A\nsettle\ntick 10000\nsettle\n") ≡ ((0, 0), (2, 2)) ∷ []
 
 -- CONNECTIONS THAT ARE GIVEN UP
 

@@ -6,7 +6,7 @@ ghost use Rattle.rl_worldmodel.specs.AnswerExamples.{AnswersShow};
 ghost use Rattle.rl_worldmodel.specs.MomentExamples.{MomentsShow};
 ghost use Rattle.rl_worldmodel.specs.SyncExamples.{SyncsShow};
 ghost use Rattle.rl_worldmodel.specs.SessionExample.{SessionShows};
-ghost use Rattle.rl_worldmodel.specs.WorldExamples.{CutsTakeAway, CallsAreKept, PairsAreQueued, DirectoryIsFull, LinesDoNothing};
+ghost use Rattle.rl_worldmodel.specs.WorldExamples.{CutsTakeAway, CallsAreKept, RoundsGoOn, PairsAreQueued, DirectoryIsFull, LinesDoNothing};
 ghost use Rattle.rl_worldmodel.specs.Refusals.{RefusesLines};
 
 /// Whatever a line does, from whatever world, is done by actions, one after another.
@@ -73,6 +73,12 @@ pub fn cuts_take_away()
 #[tactic(auto, using(crate::proofs::Computed::calls_are_kept))]
 pub fn calls_are_kept()
     ensures { CallsAreKept }
+{}
+
+/// What is called and got in the rounds of a settling.
+#[tactic(auto, using(crate::proofs::Computed::rounds_go_on))]
+pub fn rounds_go_on()
+    ensures { RoundsGoOn }
 {}
 
 /// The pairs of connections that are given up with channels, in order.
