@@ -15,7 +15,7 @@ pub data Action : Type 0 where
   Recovers : (name : List ℕ) (other : List ℕ) → Action  -- the second client dies, and the first goes on where it stood
   Obeys : (name : List ℕ) (command : Command) → Action  -- a client is told to do something
   Gets : (name : List ℕ) → Action  -- a client gets what is next on its latest transport
-  LooksAtTime : (name : List ℕ) → Action  -- a client does
+  LooksAtTime : (name : List ℕ) → Action  -- a client looks at the time
   Steps : (transport : ℕ) → Action  -- an actor does one thing
   Pages : (transport : ℕ) (channel : List ℕ) → Action  -- it asks for the next page of a sync
   Polls : (transport : ℕ) (channel : List ℕ) → Action  -- it reads a channel
@@ -23,7 +23,7 @@ pub data Action : Type 0 where
   Expires : Action  -- the book gives up connections that are over
   Reaps : Action  -- one channel is told of one of them
   Ages : (channel : List ℕ) → Action  -- a channel looks at the time
-  Names : (channel : List ℕ) → Action  -- the directory is asked for a name
+  Asks : (channel : List ℕ) → Action  -- the directory is asked for a name
   Feeds : (channel : List ℕ) (body : Body) → Action  -- one entry is put by no client
 
 -- the world after an action. One that can't be done does nothing
@@ -42,7 +42,7 @@ does (Passes span) world = record world { now = world.now + span }
 does Expires world = expires world
 does Reaps world = reaps world
 does (Ages channel) world = ages channel world
-does (Names channel) world = with_name channel world
+does (Asks channel) world = with_name channel world
 does (Feeds channel body) world = feeds channel body world
 
 -- whether an action carries on what is under way: a step that does something, a page that is asked for, a read that gives

@@ -1,14 +1,16 @@
 -- What the actors of the service do in a world: one thing at a time.
-use Rattle.std.specs.Prelude.{ℕ, Bool, true, false, not, is_some, List, [], ◌∷◌, Option, Some, None, slice_get}
+use Rattle.std.specs.Prelude.{ℕ, Bool, true, false, not, nat_le, is_some, List, [], ◌∷◌, length, Option, Some, None, slice_get}
+use Rattle.rl_numbers.specs.declared.limits.TheConstants.{MAX_FRAME_SIZE}
 use Rattle.rl_types.specs.declared.frames.Frame.{Frame}
 use Rattle.rl_events.specs.declared.calls.Call.{Call}
 use Rattle.rl_events.specs.declared.calls.End.TheVariants.{LinkEnded}
 use Rattle.rl_actormodel.specs.State as actor
 use Rattle.rl_actormodel.specs.Ends.{over}
 use Rattle.rl_actormodel.specs.Wishes.{next_call, page_call, poll_call}
-use Rattle.rl_actormodel.specs.Takes.{A, took}
+use Rattle.rl_actormodel.specs.Takes.{Came, A, Bad, took}
 use Rattle.rl_actormodel.specs.Reads.{absorbed}
 use Rattle.rl_actormodel.specs.Rests.{rested, does_rest, is_empty}
+use Rattle.rl_wire.specs.Texts.{frame_text}
 use Rattle.rl_worldmodel.specs.World.{World, Transport, with_put, with_one_got, on_transport}
 use Rattle.rl_worldmodel.specs.Calls.{reply_to, taken_before, called}
 
@@ -74,8 +76,20 @@ deed_of now (Some t) = deed now t
 abbrev pub next_deed : ℕ → World → Deed
 next_deed k world = deed_of world.now (slice_get world.transports k)
 
+-- the service reads texts of so many bytes at most
+abbrev pub is_short : Frame → Bool
+is_short frame = nat_le (length (frame_text frame)) MAX_FRAME_SIZE
+
+abbrev pub arrives_if : Bool → Frame → Came
+arrives_if true frame = A frame
+arrives_if false frame = Bad (frame_text frame)
+
+-- what comes where a client sent this frame: the frame, or else bytes that are too long for one
+abbrev pub arrives : Frame → Came
+arrives frame = arrives_if (is_short frame) frame
+
 abbrev pub takes_up : Frame → ℕ → Transport → Transport
-takes_up frame now t = works (took (A frame) now) (record t { to_service = with_one_got t.to_service })
+takes_up frame now t = works (took (arrives frame) now) (record t { to_service = with_one_got t.to_service })
 
 abbrev pub done : ℕ → Deed → World → World
 done k (Calls call) world = performs k call world
@@ -128,13 +142,13 @@ abbrev pub has_page : ℕ → List ℕ → World → Bool
 has_page k name world = is_some (next_page k name world)
 
 -- whether an actor would put something out by the reply to a call
-abbrev pub says : Call → World → Option Transport → Bool
-says call world None = false
-says call world (Some t) = not (is_empty (absorbed call (reply_to call world) world.now t.actor).waiting)
+abbrev pub puts_out : Call → World → Option Transport → Bool
+puts_out call world None = false
+puts_out call world (Some t) = not (is_empty (absorbed call (reply_to call world) world.now t.actor).waiting)
 
 abbrev pub gives_by : ℕ → Option Call → World → Bool
 gives_by k None world = false
-gives_by k (Some call) world = says call world (slice_get world.transports k)
+gives_by k (Some call) world = puts_out call world (slice_get world.transports k)
 
 -- whether a read gives an entry, an end page or an end
 abbrev pub gives : ℕ → List ℕ → World → Bool

@@ -2,7 +2,7 @@
 use Rattle.std.specs.Prelude.{ℕ, ◌≡◌, List, ◌++◌, Ok, codes}
 use Rattle.rl_worldmodel.specs.Reports.{report_of}
 
--- two answers are owed: the first one is passed over
+-- an ATTACH is given up and sent again, and both are answered
 abbrev pub second_attach : List ℕ
 second_attach =
     codes "client A\nopen A\nsettle\nattach A room\ntick 10000\ntimer A\nattach A room\nsettle\n"
@@ -80,14 +80,14 @@ times_out_report =
     ++ codes "map root 0\n"
     ++ codes "end\n"
 
--- a client that was suspended connects, drops and connects again
-abbrev pub is_suspended_again : List ℕ
-is_suspended_again =
+-- a client that was suspended, and then lost a link before it was connected, comes back
+abbrev pub comes_back_at_last : List ℕ
+comes_back_at_last =
     codes "client A\nopen A\nattach A room\nsettle\ncut A\ntick 120000\ntimer A\nopen A\ncut A\nopen A\n"
     ++ codes "settle\n"
 
-abbrev pub is_suspended_again_report : List ℕ
-is_suspended_again_report =
+abbrev pub comes_back_at_last_report : List ℕ
+comes_back_at_last_report =
     codes "report\n"
     ++ codes "channel room first 1 head 0\n"
     ++ codes "client A connected c00000003 pending 0 dropped 0\n"
@@ -136,11 +136,67 @@ cut_in_flight_report =
     ++ codes "map root 0\n"
     ++ codes "end\n"
 
+-- two answers are owed: the first one that is got is passed over
+abbrev pub first_passed_over : List ℕ
+first_passed_over =
+    codes "client A\nopen A\nsettle\nattach A room\ntick 10000\ntimer A\nattach A room\nstep A\nstep A\n"
+    ++ codes "step A\nget A\n"
+
+abbrev pub first_passed_over_report : List ℕ
+first_passed_over_report =
+    codes "report\n"
+    ++ codes "channel room first 1 head 0\n"
+    ++ codes "client A connected c00000001 pending 0 dropped 0\n"
+    ++ codes "record room attaching -\n"
+    ++ codes "members room no\n"
+    ++ codes "objects room no\n"
+    ++ codes "map root 0\n"
+    ++ codes "end\n"
+
+-- a client that was suspended and loses its next link before it is connected is suspended again
+abbrev pub stays_suspended : List ℕ
+stays_suspended =
+    codes "client A\nopen A\nattach A room\nsettle\ncut A\ntick 120000\ntimer A\nopen A\ncut A\n"
+
+abbrev pub stays_suspended_report : List ℕ
+stays_suspended_report =
+    codes "report\n"
+    ++ codes "channel room first 1 head 0\n"
+    ++ codes "client A suspended - pending 0 dropped 0\n"
+    ++ codes "record room suspended -\n"
+    ++ codes "segment 0 opened\n"
+    ++ codes "members room no\n"
+    ++ codes "objects room no\n"
+    ++ codes "map root 0\n"
+    ++ codes "end\n"
+
+-- one that attaches again while it is detaching asks for what it holds, and loses nothing
+abbrev pub asks_held : List ℕ
+asks_held =
+    codes "client A\nopen A\nattach A room\nsettle\ndetach A room\nfeed room 1 x\nattach A room\nsettle\n"
+
+abbrev pub asks_held_report : List ℕ
+asks_held_report =
+    codes "report\n"
+    ++ codes "channel room first 1 head 1\n"
+    ++ codes "entry 1 0 c00000000 0 message | \"c00000000:0:0\" - \"x\"\n"
+    ++ codes "client A connected c00000001 pending 0 dropped 0\n"
+    ++ codes "record room attached 1\n"
+    ++ codes "segment 0 opened\n"
+    ++ codes "got 1 message | \"c00000000:0:0\" - \"x\"\n"
+    ++ codes "members room yes\n"
+    ++ codes "objects room yes\n"
+    ++ codes "map root 0\n"
+    ++ codes "end\n"
+
 pub record AnswersShow : Type 0 where
   pub second_attach_prints : report_of second_attach ≡ Ok second_attach_report
   pub detaches_prints : report_of detaches ≡ Ok detaches_report
   pub crossing_prints : report_of crossing ≡ Ok crossing_report
   pub times_out_prints : report_of times_out ≡ Ok times_out_report
-  pub is_suspended_again_prints : report_of is_suspended_again ≡ Ok is_suspended_again_report
+  pub comes_back_at_last_prints : report_of comes_back_at_last ≡ Ok comes_back_at_last_report
   pub answered_anew_prints : report_of answered_anew ≡ Ok answered_anew_report
   pub cut_in_flight_prints : report_of cut_in_flight ≡ Ok cut_in_flight_report
+  pub first_passed_over_prints : report_of first_passed_over ≡ Ok first_passed_over_report
+  pub stays_suspended_prints : report_of stays_suspended ≡ Ok stays_suspended_report
+  pub asks_held_prints : report_of asks_held ≡ Ok asks_held_report

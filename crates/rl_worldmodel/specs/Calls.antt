@@ -1,11 +1,12 @@
 -- The machines of the service in a world: what each call is answered, and what it leaves.
-use Rattle.std.specs.Prelude.{ℕ, if◌then◌else◌, List, [], ◌∷◌, ◌++◌, length, Option, Some, None}
+use Rattle.std.specs.Prelude.{ℕ, ◌≡◌, if◌then◌else◌, List, [], ◌∷◌, ◌++◌, length, Option, Some, None}
 use Rattle.rl_events.specs.declared.book.BookEvent.{BookEvent}
 use Rattle.rl_events.specs.declared.channel.ChannelEvent.{ChannelEvent}
 use Rattle.rl_events.specs.declared.calls.Call.{Call}
 use Rattle.rl_events.specs.declared.calls.Call.TheVariants as calls
 use Rattle.rl_events.specs.declared.calls.Reply.{Reply}
 use Rattle.rl_events.specs.declared.calls.Reply.TheVariants as replies
+use Rattle.rl_events.specs.declared.calls.DirEvent.{DirEvent}
 use Rattle.rl_events.specs.declared.calls.DirEvent.TheVariants.{Ask, Names}
 use Rattle.rl_connbook.specs.Book as book
 use Rattle.rl_directory.specs.Directory as directory
@@ -57,3 +58,7 @@ called (calls.Book event) world = with_book_event event world
 called (calls.Dir (Ask name)) world = with_name name world
 called (calls.Dir Names) world = world
 called (calls.Chan number event) world = with_event number event world
+
+-- a call of the directory leaves the names that the directory has after it, by its own words
+abbrev pub NamesFollow : Type 0
+NamesFollow = (world : World) (event : DirEvent) → names (called (calls.Dir event) world) ≡ directory.after (names world) event

@@ -106,16 +106,17 @@ opens name world = opened_by name (client_at name world) world
 
 -- COMMANDS
 
--- a client is told to do something. To connect is to open a transport
+-- a client is told to do something. To connect is to open a transport; at death the latest one is cut
 abbrev pub obeys : List ℕ → Command → World → World
 obeys name Connect world = opens name world
+obeys name Die world = cuts name (takes_turn name (acted Die world.now) world)
 obeys name command world = takes_turn name (acted command world.now) world
 
 -- RECOVERY (RTN16)
 
 abbrev pub recovered_with : List ℕ → List ℕ → Option RecoveryKey → World → World
 recovered_with name other None world = world
-recovered_with name other (Some key) world = on_client name (recovered key) (cuts other (obeys other Die world))
+recovered_with name other (Some key) world = on_client name (recovered key) (obeys other Die world)
 
 abbrev pub recovered_if : Bool → List ℕ → List ℕ → ClientState → World → World
 recovered_if false name other lost world = world

@@ -122,13 +122,13 @@ in_flight_held_report =
     ++ codes "end\n"
 
 -- a client goes on where another one stood
-abbrev pub recovered : List ℕ
-recovered =
+abbrev pub recovers_place : List ℕ
+recovers_place =
     codes "client A\nclient B\nopen A\nattach A room\nsettle\nrecover B A\nopen B\nattach B room\n"
     ++ codes "feed room 2 x\nsettle\n"
 
-abbrev pub recovered_report : List ℕ
-recovered_report =
+abbrev pub recovers_place_report : List ℕ
+recovers_place_report =
     codes "report\n"
     ++ codes "channel room first 1 head 2\n"
     ++ codes "entry 1 0 c00000000 0 message | \"c00000000:0:0\" - \"x\"\n"
@@ -232,14 +232,14 @@ starts_anew_report =
     ++ codes "end\n"
 
 -- a client closes; its connection is given up
-abbrev pub closes : List ℕ
-closes =
+abbrev pub closes_later : List ℕ
+closes_later =
     codes "client A\nclient B\nopen A\nopen B\nattach A room\nattach B other\nsettle\npub A room a\n"
     ++ codes "pub B other b\nclose A\npub A room c\nsettle\nexpire\nsettle\npub B room d\nsettle\ncut B\nsettle\n"
     ++ codes "tick 130000\ntimer B\nopen B\nsettle\n"
 
-abbrev pub closes_report : List ℕ
-closes_report =
+abbrev pub closes_later_report : List ℕ
+closes_later_report =
     codes "report\n"
     ++ codes "channel other first 1 head 1\n"
     ++ codes "entry 1 0 c00000002 0 message | \"c00000002:0:0\" - \"b\"\n"
@@ -286,6 +286,17 @@ late_ack_report =
     ++ codes "map root 0\n"
     ++ codes "end\n"
 
+-- two minutes count from the moment at which the service learned of the loss
+abbrev pub lost_at : List ℕ
+lost_at =
+    codes "client A\nopen A\nsettle\ntick 50000\ncut A\nsettle\ntick 70000\nexpire\nopen A\nsettle\n"
+
+abbrev pub lost_at_report : List ℕ
+lost_at_report =
+    codes "report\n"
+    ++ codes "client A connected c00000001 pending 0 dropped 0\n"
+    ++ codes "end\n"
+
 pub record ConnectionsShow : Type 0 where
   pub answered_by_id_prints : report_of answered_by_id ≡ Ok answered_by_id_report
   pub superseded_prints : report_of superseded ≡ Ok superseded_report
@@ -294,9 +305,10 @@ pub record ConnectionsShow : Type 0 where
   pub came_back_prints : report_of came_back ≡ Ok came_back_report
   pub in_flight_prints : report_of in_flight ≡ Ok in_flight_report
   pub in_flight_held_prints : report_of in_flight_held ≡ Ok in_flight_held_report
-  pub recovered_prints : report_of recovered ≡ Ok recovered_report
+  pub recovers_place_prints : report_of recovers_place ≡ Ok recovers_place_report
   pub recovers_serial_prints : report_of recovers_serial ≡ Ok recovers_serial_report
   pub queued_before_prints : report_of queued_before ≡ Ok queued_before_report
   pub starts_anew_prints : report_of starts_anew ≡ Ok starts_anew_report
-  pub closes_prints : report_of closes ≡ Ok closes_report
+  pub closes_later_prints : report_of closes_later ≡ Ok closes_later_report
   pub late_ack_prints : report_of late_ack ≡ Ok late_ack_report
+  pub lost_at_prints : report_of lost_at ≡ Ok lost_at_report

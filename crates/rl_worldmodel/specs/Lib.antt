@@ -7,6 +7,8 @@ pub mod Actions
 pub mod Settling
 pub mod Lines
 pub mod Acting
+pub mod Arriving
+pub mod Running
 pub mod Findings
 pub mod Tokens
 pub mod Script

@@ -4,7 +4,7 @@ use Rattle.rl_runs.specs.declared.script.Line.{Line}
 use Rattle.rl_runs.specs.declared.script.Line.TheVariants as lines
 use Rattle.rl_worldmodel.specs.World.{World, empty_world, transport_of}
 use Rattle.rl_worldmodel.specs.Services.{message}
-use Rattle.rl_worldmodel.specs.Actions.{Action, Declares, Opens, Cuts, Recovers, Obeys, Gets, LooksAtTime, Steps, Pages, Polls, Passes, Expires, Reaps, Ages, Names, Feeds, all_done}
+use Rattle.rl_worldmodel.specs.Actions.{Action, Declares, Opens, Cuts, Recovers, Obeys, Gets, LooksAtTime, Steps, Pages, Polls, Passes, Expires, Reaps, Ages, Asks, Feeds, all_done}
 use Rattle.rl_worldmodel.specs.Settling.{settles}
 
 -- the action on a transport, where there is one
@@ -29,8 +29,8 @@ actions_of (lines.Tick span) world = Passes span ∷ []
 actions_of lines.Expire world = Expires ∷ []
 actions_of lines.Reap world = Reaps ∷ []
 actions_of (lines.Age channel) world = Ages channel ∷ []
-actions_of (lines.Feed channel count text) world = Names channel ∷ replicate count (Feeds channel (message None text))
-actions_of (lines.FeedId channel id text) world = Names channel ∷ Feeds channel (message (Some id) text) ∷ []
+actions_of (lines.Feed channel count text) world = Asks channel ∷ replicate count (Feeds channel (message None text))
+actions_of (lines.FeedId channel id text) world = Asks channel ∷ Feeds channel (message (Some id) text) ∷ []
 actions_of lines.Settle world = []
 
 abbrev pub after_line : World → Line → World

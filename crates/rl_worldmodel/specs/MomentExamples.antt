@@ -50,22 +50,21 @@ listens_report =
 -- a client that gets nothing for too long gives its link up
 abbrev pub quiet : List ℕ
 quiet =
-    codes "client A\nopen A\nsettle\ntick 25000\ntimer A\nsettle\nopen A\nsettle\ntick 12000\nsettle\n"
-    ++ codes "tick 14000\ntimer A\n"
+    codes "client A\nopen A\nsettle\ntick 25000\ntimer A\n"
 
 abbrev pub quiet_report : List ℕ
 quiet_report =
     codes "report\n"
-    ++ codes "client A connected c00000001 pending 0 dropped 0\n"
+    ++ codes "client A disconnected c00000001 pending 0 dropped 0\n"
     ++ codes "end\n"
 
 -- the time counts from its own last frame
-abbrev pub is_silent : List ℕ
-is_silent =
+abbrev pub own_silence : List ℕ
+own_silence =
     codes "client A\nclient B\nopen A\nsettle\ntick 1\nopen B\nsettle\ntick 24999\ntimer A\ntimer B\n"
 
-abbrev pub is_silent_report : List ℕ
-is_silent_report =
+abbrev pub own_silence_report : List ℕ
+own_silence_report =
     codes "report\n"
     ++ codes "client A disconnected c00000001 pending 0 dropped 0\n"
     ++ codes "client B connected c00000002 pending 0 dropped 0\n"
@@ -83,13 +82,13 @@ heartbeat_report =
     ++ codes "end\n"
 
 -- DISCONNECTED and CONNECTING end after two minutes, from the last Connect in another state
-abbrev pub is_past_ttl : List ℕ
-is_past_ttl =
+abbrev pub past_two_minutes : List ℕ
+past_two_minutes =
     codes "client A\nclient B\nopen A\nopen B\nsettle\ncut A\ncut B\ntick 100000\nopen A\ntick 19999\ntimer A\n"
     ++ codes "tick 1\ntimer B\nopen B\ntick 119999\ntimer A\ntimer B\n"
 
-abbrev pub is_past_ttl_report : List ℕ
-is_past_ttl_report =
+abbrev pub past_two_minutes_report : List ℕ
+past_two_minutes_report =
     codes "report\n"
     ++ codes "client A suspended - pending 0 dropped 0\n"
     ++ codes "client B connecting - pending 0 dropped 0\n"
@@ -186,14 +185,43 @@ drops_link_report =
     ++ codes "client A connected c00000002 pending 0 dropped 0\n"
     ++ codes "end\n"
 
+-- it comes back, and a HEARTBEAT that it gets then counts
+abbrev pub hears_again : List ℕ
+hears_again =
+    codes "client A\nopen A\nsettle\ntick 25000\ntimer A\nsettle\nopen A\nsettle\ntick 12000\nsettle\n"
+    ++ codes "tick 14000\ntimer A\n"
+
+abbrev pub hears_again_report : List ℕ
+hears_again_report =
+    codes "report\n"
+    ++ codes "client A connected c00000001 pending 0 dropped 0\n"
+    ++ codes "end\n"
+
+-- a frame that is there when ten minutes are over is taken up first
+abbrev pub frame_before_rest : List ℕ
+frame_before_rest =
+    codes "client A\nopen A\nsettle\ntick 600000\nattach A room\nsettle\n"
+
+abbrev pub frame_before_rest_report : List ℕ
+frame_before_rest_report =
+    codes "report\n"
+    ++ codes "channel room first 1 head 0\n"
+    ++ codes "client A connected c00000001 pending 0 dropped 0\n"
+    ++ codes "record room attached 0\n"
+    ++ codes "segment 0 opened\n"
+    ++ codes "members room yes\n"
+    ++ codes "objects room yes\n"
+    ++ codes "map root 0\n"
+    ++ codes "end\n"
+
 pub record MomentsShow : Type 0 where
   pub idles_prints : report_of idles ≡ Ok idles_report
   pub detached_idles_prints : report_of detached_idles ≡ Ok detached_idles_report
   pub listens_prints : report_of listens ≡ Ok listens_report
   pub quiet_prints : report_of quiet ≡ Ok quiet_report
-  pub is_silent_prints : report_of is_silent ≡ Ok is_silent_report
+  pub own_silence_prints : report_of own_silence ≡ Ok own_silence_report
   pub heartbeat_prints : report_of heartbeat ≡ Ok heartbeat_report
-  pub is_past_ttl_prints : report_of is_past_ttl ≡ Ok is_past_ttl_report
+  pub past_two_minutes_prints : report_of past_two_minutes ≡ Ok past_two_minutes_report
   pub ttl_from_loss_prints : report_of ttl_from_loss ≡ Ok ttl_from_loss_report
   pub not_idle_yet_prints : report_of not_idle_yet ≡ Ok not_idle_yet_report
   pub idle_then_prints : report_of idle_then ≡ Ok idle_then_report
@@ -201,3 +229,5 @@ pub record MomentsShow : Type 0 where
   pub lost_later_prints : report_of lost_later ≡ Ok lost_later_report
   pub suspended_later_prints : report_of suspended_later ≡ Ok suspended_later_report
   pub drops_link_prints : report_of drops_link ≡ Ok drops_link_report
+  pub hears_again_prints : report_of hears_again ≡ Ok hears_again_report
+  pub frame_before_rest_prints : report_of frame_before_rest ≡ Ok frame_before_rest_report

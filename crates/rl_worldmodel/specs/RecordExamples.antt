@@ -264,6 +264,38 @@ reads_sixteen_report =
     ++ codes "map root 0\n"
     ++ codes "end\n"
 
+-- an id that was fed before adds no entry, but takes a serial
+abbrev pub fed_by_id : List ℕ
+fed_by_id =
+    codes "feedid r x a\nfeedid r x b\nfeed r 1 z\n"
+
+abbrev pub fed_by_id_report : List ℕ
+fed_by_id_report =
+    codes "report\n"
+    ++ codes "channel r first 1 head 2\n"
+    ++ codes "entry 1 0 c00000000 0 message | \"x\" - \"a\"\n"
+    ++ codes "entry 2 0 c00000000 2 message | \"c00000000:2:0\" - \"z\"\n"
+    ++ codes "end\n"
+
+-- a session that did not read until its entries were gone ends; the client comes back behind them
+abbrev pub falls_behind : List ℕ
+falls_behind =
+    codes "client A\nopen A\nattach A room\nsettle\nfeed room 2 x\ntick 120001\nage room\nsettle\nopen A\n"
+    ++ codes "settle\n"
+
+abbrev pub falls_behind_report : List ℕ
+falls_behind_report =
+    codes "report\n"
+    ++ codes "channel room first 3 head 2\n"
+    ++ codes "client A connected c00000001 pending 0 dropped 0\n"
+    ++ codes "record room attached 2\n"
+    ++ codes "segment 0 opened\n"
+    ++ codes "segment 2 notretained 0\n"
+    ++ codes "members room yes\n"
+    ++ codes "objects room yes\n"
+    ++ codes "map root 0\n"
+    ++ codes "end\n"
+
 pub record RecordsShow : Type 0 where
   pub empty_prints : report_of empty ≡ Ok empty_report
   pub published_once_prints : report_of published_once ≡ Ok published_once_report
@@ -276,3 +308,5 @@ pub record RecordsShow : Type 0 where
   pub held_of_another_run_prints : report_of held_of_another_run ≡ Ok held_of_another_run_report
   pub aged_prints : report_of aged ≡ Ok aged_report
   pub reads_sixteen_prints : report_of reads_sixteen ≡ Ok reads_sixteen_report
+  pub fed_by_id_prints : report_of fed_by_id ≡ Ok fed_by_id_report
+  pub falls_behind_prints : report_of falls_behind ≡ Ok falls_behind_report

@@ -7,7 +7,6 @@ use Rattle.std.specs.Str.Lines.{lines}
 use Rattle.rl_numbers.specs.declared.limits.TheConstants.{MAX_CLIENTS, MAX_COUNT, MAX_FED, MAX_FED_TEXT, MAX_GIVEN, MAX_TEXT, MAX_TICK, MAX_TRANSPORTS}
 use Rattle.rl_ids.specs.declared.objects.ObjectId.{ObjectId}
 use Rattle.rl_ids.specs.declared.objects.MapValue.{MapValue}
-use Rattle.rl_types.specs.declared.messages.Item.{Item}
 use Rattle.rl_types.specs.declared.objects.Op.{Op}
 use Rattle.rl_types.specs.declared.objects.Op.TheVariants as ops
 use Rattle.rl_runs.specs.declared.script.ScriptCause.{ScriptCause}
@@ -17,6 +16,7 @@ use Rattle.rl_runs.specs.declared.commands.Command.TheVariants.{Close, Attach, A
 use Rattle.rl_runs.specs.declared.script.Line.{Line}
 use Rattle.rl_runs.specs.declared.script.Line.TheVariants.{Client, Open, Cut, Recover, Act, Get, Step, Page, Poll, Timer, Tick, Expire, Reap, Age, Feed, FeedId, Settle}
 use Rattle.rl_model.specs.Script.{is_space, is_name, is_channel, is_between, is_blank, number_within}
+use Rattle.rl_worldmodel.specs.Services.{one_item}
 use Rattle.rl_worldmodel.specs.Tokens.{rest_after, whole_of, object_of, value_of}
 
 -- TOKENS
@@ -108,9 +108,6 @@ attach_at_line (name ∷ channel ∷ epoch ∷ place ∷ []) =
     with_number 0 MAX_GIVEN place (λ p.
     says (Act name (AttachAt channel (record { epoch = e; place = p })))))))
 attach_at_line tokens = Err cause.Count
-
-abbrev pub one_item : Option (List ℕ) → List ℕ → List Item
-one_item id text = record { id = id; name = None; payload = Some text; encoding = None; client = None } ∷ []
 
 -- a text is the rest of the line, spaces and all
 abbrev pub pub_line : List ℕ → List (List ℕ) → Said
@@ -305,23 +302,23 @@ line_after race before (Err fault) = Err fault
 -- WHOLE SCRIPTS
 
 -- a refusal: the number of the line, from 1, and the cause
-abbrev pub Refusal : Type 0
-Refusal = ℕ × ScriptCause
+abbrev pub LineRefusal : Type 0
+LineRefusal = ℕ × ScriptCause
 
 abbrev pub with_line : List Line → Option Line → List Line
 with_line before None = before
 with_line before (Some line) = before ++ line ∷ []
 
-abbrev pub go_on : ℕ → Said → List Line → (List Line → Result (List Line) Refusal) → Result (List Line) Refusal
-go_on number (Ok line) before rest = rest (with_line before line)
-go_on number (Err fault) before rest = Err (number, fault)
+abbrev pub then_rest : ℕ → Said → List Line → (List Line → Result (List Line) LineRefusal) → Result (List Line) LineRefusal
+then_rest number (Ok line) before rest = rest (with_line before line)
+then_rest number (Err fault) before rest = Err (number, fault)
 
 -- what the lines from this number on say after the lines before them
-abbrev pub script_from : Bool → List (List ℕ) → ℕ → List Line → Result (List Line) Refusal
+abbrev pub script_from : Bool → List (List ℕ) → ℕ → List Line → Result (List Line) LineRefusal
 script_from race [] number before = Ok before
 script_from race (text ∷ texts) number before =
-    go_on number (line_after race before (line_of text)) before (script_from race texts (suc number))
+    then_rest number (line_after race before (line_of text)) before (script_from race texts (suc number))
 
 -- what the bytes of a script say, or of a race: its lines, or the first line that is refused
-abbrev pub script_of : Bool → List ℕ → Result (List Line) Refusal
+abbrev pub script_of : Bool → List ℕ → Result (List Line) LineRefusal
 script_of race bytes = script_from race (lines bytes) 1 []

@@ -3,6 +3,7 @@
 use Rattle.std.specs.Prelude.{ℕ, zero, suc, ◌+◌, Bool, true, false, List, [], ◌∷◌, ◌++◌, map, flat_map, length, Option, Some, None}
 use Rattle.rl_types.specs.declared.messages.Body.{Body}
 use Rattle.rl_types.specs.declared.messages.Body.TheVariants.{Messages}
+use Rattle.rl_types.specs.declared.messages.Item.{Item}
 use Rattle.rl_events.specs.declared.book.BookEvent.TheVariants.{Expire}
 use Rattle.rl_events.specs.declared.book.BookReply.{BookReply}
 use Rattle.rl_events.specs.declared.book.BookReply.TheVariants.{Expired}
@@ -71,8 +72,11 @@ abbrev pub feed_conn : ℕ
 feed_conn = 0
 
 -- one message, with an id or without
+abbrev pub one_item : Option (List ℕ) → List ℕ → List Item
+one_item id text = record { id = id; name = None; payload = Some text; encoding = None; client = None } ∷ []
+
 abbrev pub message : Option (List ℕ) → List ℕ → Body
-message id text = Messages (record { id = id; name = None; payload = Some text; encoding = None; client = None } ∷ [])
+message id text = Messages (one_item id text)
 
 abbrev pub fed_at : Option ℕ → Body → World → World
 fed_at None body world = world

@@ -399,6 +399,52 @@ end_page_comes_report =
     ++ codes "map root 0\n"
     ++ codes "end\n"
 
+-- a member that left while a client was away is gone when its sync ends, though the entry is gone too
+abbrev pub left_meanwhile : List ℕ
+left_meanwhile =
+    codes "client A\nclient B\nclient C\nopen A\nopen B\nopen C\nattach A room\nattach B room\nattach C room\n"
+    ++ codes "settle\nenter A room a x\nenter C room c y\nsettle\ncut B\nleave A room a\nsettle\ntick 120001\n"
+    ++ codes "age room\nopen B\nsettle\n"
+
+abbrev pub left_meanwhile_report : List ℕ
+left_meanwhile_report =
+    codes "report\n"
+    ++ codes "channel room first 4 head 3\n"
+    ++ codes "client A connected c00000001 pending 0 dropped 0\n"
+    ++ codes "ack c00000001 0\n"
+    ++ codes "ack c00000001 1\n"
+    ++ codes "record room attached 3\n"
+    ++ codes "segment 0 opened\n"
+    ++ codes "got 1 presence | enter \"a\" \"x\"\n"
+    ++ codes "got 2 presence | enter \"c\" \"y\"\n"
+    ++ codes "got 3 presence | leave \"a\" -\n"
+    ++ codes "members room yes\n"
+    ++ codes "member c00000003 \"c\" \"y\"\n"
+    ++ codes "objects room yes\n"
+    ++ codes "map root 0\n"
+    ++ codes "client B connected c00000002 pending 0 dropped 0\n"
+    ++ codes "record room attached 3\n"
+    ++ codes "segment 0 opened\n"
+    ++ codes "got 1 presence | enter \"a\" \"x\"\n"
+    ++ codes "got 2 presence | enter \"c\" \"y\"\n"
+    ++ codes "segment 3 notretained 2\n"
+    ++ codes "members room yes\n"
+    ++ codes "member c00000003 \"c\" \"y\"\n"
+    ++ codes "objects room yes\n"
+    ++ codes "map root 0\n"
+    ++ codes "client C connected c00000003 pending 0 dropped 0\n"
+    ++ codes "ack c00000003 0\n"
+    ++ codes "record room attached 3\n"
+    ++ codes "segment 0 opened\n"
+    ++ codes "got 1 presence | enter \"a\" \"x\"\n"
+    ++ codes "got 2 presence | enter \"c\" \"y\"\n"
+    ++ codes "got 3 presence | leave \"a\" -\n"
+    ++ codes "members room yes\n"
+    ++ codes "member c00000003 \"c\" \"y\"\n"
+    ++ codes "objects room yes\n"
+    ++ codes "map root 0\n"
+    ++ codes "end\n"
+
 pub record SyncsShow : Type 0 where
   pub refused_once_prints : report_of refused_once ≡ Ok refused_once_report
   pub page_ahead_prints : report_of page_ahead ≡ Ok page_ahead_report
@@ -409,3 +455,4 @@ pub record SyncsShow : Type 0 where
   pub number_rules_prints : report_of number_rules ≡ Ok number_rules_report
   pub end_page_waits_prints : report_of end_page_waits ≡ Ok end_page_waits_report
   pub end_page_comes_prints : report_of end_page_comes ≡ Ok end_page_comes_report
+  pub left_meanwhile_prints : report_of left_meanwhile ≡ Ok left_meanwhile_report

@@ -54,14 +54,14 @@ without_rest way = record way { put = take way.got way.put }
 
 -- a call that an actor made: behind how many events its machine took it. So the event of a Join, and what it was
 -- answered, are known to be this actor's
-pub record Made : Type 0 where
+pub record CallMade : Type 0 where
   pub call : Call
   pub before : ℕ
 
 pub record Transport : Type 0 where
   pub owner : List ℕ  -- the client's name
   pub actor : actor.State  -- what serves it
-  pub made : List Made  -- the calls that the actor made, the latest first
+  pub made : List CallMade  -- the calls that the actor made, the latest first
   pub to_service : Way
   pub to_client : Way
   pub cut : Bool

@@ -1,15 +1,19 @@
 //! Laws over the definitions alone. Each is a function that does nothing: its contract is the law.
 ghost use Rattle.rl_worldmodel.specs.Acting.{LinesAct, ScriptsAct};
+ghost use Rattle.rl_worldmodel.specs.Calls.{NamesFollow};
+ghost use Rattle.rl_worldmodel.specs.Running.{ClientsRun, ActorsRun};
+ghost use Rattle.rl_worldmodel.specs.Arriving.{FramesArrive, LettersArrive};
 ghost use Rattle.rl_worldmodel.specs.RecordExamples.{RecordsShow};
 ghost use Rattle.rl_worldmodel.specs.ConnectionExamples.{ConnectionsShow};
 ghost use Rattle.rl_worldmodel.specs.AnswerExamples.{AnswersShow};
 ghost use Rattle.rl_worldmodel.specs.MomentExamples.{MomentsShow};
 ghost use Rattle.rl_worldmodel.specs.SyncExamples.{SyncsShow};
 ghost use Rattle.rl_worldmodel.specs.SessionExample.{SessionShows};
-ghost use Rattle.rl_worldmodel.specs.WorldExamples.{CutsTakeAway, CallsAreKept, RoundsGoOn, PairsAreQueued, DirectoryIsFull, LinesDoNothing};
-ghost use Rattle.rl_worldmodel.specs.Refusals.{RefusesLines};
+ghost use Rattle.rl_worldmodel.specs.WorldExamples.{CutsTakeAway, CallsAreKept, RoundsGoOn, PairsAreQueued, DirectoryIsFull, LinesDoNothing, SerialsShow};
+ghost use Rattle.rl_worldmodel.specs.Refusals.{RefusesLines, BoundsRefuse};
 
-/// Whatever a line does, from whatever world, is done by actions, one after another.
+/// What `settle` does, from whatever world, is done by steps, pages, reads, members that leave and frames that are got; what each
+/// other line does, by the actions that it stands for.
 #[tactic(auto, using(crate::proofs::Acting::lines_act))]
 pub fn lines_act()
     ensures { LinesAct }
@@ -19,6 +23,36 @@ pub fn lines_act()
 #[tactic(auto, using(crate::proofs::Acting::scripts_act))]
 pub fn scripts_act()
     ensures { ScriptsAct }
+{}
+
+/// A message of up to 4,194,235 letters comes as it is, and one with more of them as bad bytes.
+#[tactic(auto, using(crate::proofs::Arriving::letters_arrive))]
+pub fn letters_arrive()
+    ensures { LettersArrive }
+{}
+
+/// Whatever was done, each client of the world is what some inputs make of a new client.
+#[tactic(auto, using(crate::proofs::Running::clients_run))]
+pub fn clients_run()
+    ensures { ClientsRun }
+{}
+
+/// Whatever was done, each transport's actor is what some inputs make of a new one, from the moment at which it was opened.
+#[tactic(auto, using(crate::proofs::Running::actors_run))]
+pub fn actors_run()
+    ensures { ActorsRun }
+{}
+
+/// The names that a world has after a call of its directory are those that the directory gives.
+#[tactic(auto, using(crate::proofs::Naming::names_follow))]
+pub fn names_follow()
+    ensures { NamesFollow }
+{}
+
+/// A frame whose text the service reads comes as it is. One whose text is too long comes as bad bytes, and ends the actor.
+#[tactic(auto, using(crate::proofs::Arriving::frames_arrive))]
+pub fn frames_arrive()
+    ensures { FramesArrive }
 {}
 
 /// The reports of runs in which clients attach, drop and come back.
@@ -97,4 +131,16 @@ pub fn directory_is_full()
 #[tactic(auto, using(crate::proofs::Computed::lines_do_nothing))]
 pub fn lines_do_nothing()
     ensures { LinesDoNothing }
+{}
+
+/// The site and the place that an object's serial has in a client's state.
+#[tactic(auto, using(crate::proofs::Computed::serials_show))]
+pub fn serials_show()
+    ensures { SerialsShow }
+{}
+
+/// Each bound of a token, on both sides of it.
+#[tactic(auto, using(crate::proofs::Computed::bounds_refuse))]
+pub fn bounds_refuse()
+    ensures { BoundsRefuse }
 {}
