@@ -1,6 +1,5 @@
 -- What every action keeps is kept by every line, and so by every script.
 use Rattle.std.proofs.Common.{◌≡◌, refl, ap, ◌∙◌, ℕ, zero, suc, Bool, true, false, List, [], ◌∷◌, ◌++◌, fold}
-use Rattle.std.specs.List.{AllByRecursion}
 use Rattle.rl_numbers.specs.declared.limits.TheConstants.{MAX_ROUNDS, ROUND_GETS}
 use Rattle.rl_runs.specs.declared.script.Line.{Line}
 use Rattle.rl_runs.specs.declared.script.Line.TheVariants as lines

@@ -1,18 +1,15 @@
 -- What comes of a frame is told by the length of its text.
-use Rattle.std.proofs.Common.{◌≡◌, ◌≤◌, ◌<◌, ◌+◌, refl, ap, ◌∙◌, ℕ, zero, suc, Bool, true, false, List, [], ◌∷◌, ◌++◌, length, replicate, Some, codes, arith, length-append}
+use Rattle.std.proofs.Common.{◌≡◌, ◌≤◌, ◌<◌, ◌+◌, refl, ap, ◌∙◌, ℕ, zero, suc, Bool, false, List, [], ◌∷◌, ◌++◌, length, replicate, codes, arith, length-append}
 use Rattle.std.specs.Fmt.{digits}
 use Rattle.json.specs.Print.{escape, escape_byte}
 use Rattle.std.proofs.lemmas.Bool.{lt-leb, le-leb}
 use Rattle.rl_numbers.specs.declared.limits.TheConstants.{MAX_FRAME_SIZE}
-use Rattle.rl_numbers.specs.declared.codes.TheConstants.{BAD_FRAME}
 use Rattle.rl_types.specs.declared.frames.Frame.{Frame}
-use Rattle.rl_types.specs.declared.frames.Frame.TheVariants.{Disconnected}
-use Rattle.rl_events.specs.declared.calls.End.TheVariants.{BadFrame}
-use Rattle.rl_actormodel.specs.Takes.{Came, A, Bad, took}
+use Rattle.rl_actormodel.specs.Takes.{A, Bad, took}
 use Rattle.rl_jsonfields.specs.Names.{spelled}
 use Rattle.rl_wireitems.specs.Items.{message_values, message_value}
 use Rattle.rl_wire.specs.Texts.{frame_text, frame_members, head_members}
-use Rattle.rl_worldmodel.specs.World.{Transport, with_put, with_one_got}
+use Rattle.rl_worldmodel.specs.World.{Transport, with_one_got}
 use Rattle.rl_worldmodel.specs.Actors.{arrives, arrives_if, takes_up, works, emptied, put_out_unless}
 use Rattle.rl_worldmodel.specs.Arriving.{IsLong, FramesArrive, letters_frame, LettersArrive}
 

@@ -1,5 +1,5 @@
 -- Whatever a script does is done by actions, one after another.
-use Rattle.std.specs.Prelude.{ℕ, ◌≡◌, Bool, true, false, List}
+use Rattle.std.specs.Prelude.{◌≡◌, Bool, true, false, List}
 use Rattle.std.specs.List.{AllByRecursion}
 use Rattle.rl_runs.specs.declared.script.Line.{Line}
 use Rattle.rl_runs.specs.declared.script.Line.TheVariants.{Settle}

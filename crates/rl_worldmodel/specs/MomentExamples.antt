@@ -1,4 +1,5 @@
--- Runs whose reports are known: each time limit, on both sides of it.
+-- Runs whose reports are known: each time limit, on both sides of it. That an actor neither ends nor puts out a HEARTBEAT one
+-- millisecond too early is in WorldExamples.
 use Rattle.std.specs.Prelude.{ℕ, ◌≡◌, List, ◌++◌, Ok, codes}
 use Rattle.rl_worldmodel.specs.Reports.{report_of}
 

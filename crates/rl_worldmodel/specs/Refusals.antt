@@ -132,7 +132,7 @@ pub record RefusesLines : Type 0 where
   pub pages : line_of (codes "page A/3 r") ≡ Ok (Some (Page a (Some 3) r))
   pub polls : line_of (codes "poll A/3 r") ≡ Ok (Some (Poll a (Some 3) r))
 
--- each bound of a token, on both sides
+-- each bound of a token, with what was refused above on both sides
 pub record BoundsRefuse : Type 0 where
   pub longest_name : refused (codes "client abcdefghijklmnop") ≡ None
   pub longest_channel : refused (codes "client A\nattach A " ++ letters 64) ≡ None
