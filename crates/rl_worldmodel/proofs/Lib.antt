@@ -1,0 +1,5 @@
+pub mod Computed
+pub mod Acting
+pub mod Arriving
+pub mod Naming
+pub mod Running
