@@ -1,0 +1,11 @@
+pub mod Shape
+pub mod Quiet
+pub mod Runs
+pub mod Books
+pub mod Flights
+pub mod Sessions
+pub mod Orderly
+pub mod Truths
+pub mod Service
+pub mod Calm
+pub mod Answers

@@ -1,0 +1,5 @@
+pub mod Runs
+pub mod Orderly
+pub mod Orders
+pub mod Told
+pub mod Truth

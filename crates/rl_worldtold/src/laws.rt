@@ -1,0 +1,22 @@
+//! Laws over the definitions alone. Each is a function that does nothing: its contract is the law.
+ghost use Rattle.rl_worldtold.specs.Orderly.{PutsComeBeforeGone, HistoriesAreOrderly};
+ghost use Rattle.rl_worldtold.specs.Told.{AnswersAreTold};
+
+/// In every channel's history no Put of a connection comes after a Gone of it.
+#[tactic(auto, using(crate::proofs::Orderly::puts_come_before_gone))]
+pub fn puts_come_before_gone()
+    ensures { PutsComeBeforeGone }
+{}
+
+/// In every channel's history no Put of a connection adds an entry after a Gone of it.
+#[tactic(auto, using(crate::proofs::Orderly::histories_are_orderly))]
+pub fn histories_are_orderly()
+    ensures { HistoriesAreOrderly }
+{}
+
+/// Each ACK that a client lists is of a Put that a channel took; each NACK is of one that a channel refused with its code,
+/// or the directory is full and the code says so (RTN7a).
+#[tactic(auto, using(crate::proofs::Answers::answers_are_told))]
+pub fn answers_are_told()
+    ensures { AnswersAreTold }
+{}
