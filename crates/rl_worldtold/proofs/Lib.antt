@@ -5,6 +5,8 @@ pub mod Books
 pub mod Flights
 pub mod Sessions
 pub mod Orderly
+pub mod Given
+pub mod Generations
 pub mod Truths
 pub mod Service
 pub mod Calm

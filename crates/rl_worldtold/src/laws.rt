@@ -1,5 +1,6 @@
 //! Laws over the definitions alone. Each is a function that does nothing: its contract is the law.
 ghost use Rattle.rl_worldtold.specs.Orderly.{PutsComeBeforeGone, HistoriesAreOrderly};
+ghost use Rattle.rl_worldtold.specs.Given.{BooksAreDecided, NumbersAreGivenOnce, GenerationsAreGivenOnce};
 ghost use Rattle.rl_worldtold.specs.Told.{AnswersAreTold};
 
 /// In every channel's history no Put of a connection comes after a Gone of it.
@@ -12,6 +13,24 @@ pub fn puts_come_before_gone()
 #[tactic(auto, using(crate::proofs::Orderly::histories_are_orderly))]
 pub fn histories_are_orderly()
     ensures { HistoriesAreOrderly }
+{}
+
+/// The book of a world is the book of its events: so every law of the book holds of it.
+#[tactic(auto, using(crate::proofs::Given::books_are_decided))]
+pub fn books_are_decided()
+    ensures { BooksAreDecided }
+{}
+
+/// No connection number is given twice: each is of the range, and above each that was given before.
+#[tactic(auto, using(crate::proofs::Given::numbers_are_given_once))]
+pub fn numbers_are_given_once()
+    ensures { NumbersAreGivenOnce }
+{}
+
+/// No connection is given to two transports under one generation: each is above those under which it was given before.
+#[tactic(auto, using(crate::proofs::Generations::generations_are_given_once))]
+pub fn generations_are_given_once()
+    ensures { GenerationsAreGivenOnce }
 {}
 
 /// Each ACK that a client lists is of a Put that a channel took; each NACK is of one that a channel refused with its code,
