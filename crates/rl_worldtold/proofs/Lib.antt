@@ -7,6 +7,8 @@ pub mod Sessions
 pub mod Orderly
 pub mod Given
 pub mod Generations
+pub mod Inputs
+pub mod Accounts
 pub mod Truths
 pub mod Service
 pub mod Calm

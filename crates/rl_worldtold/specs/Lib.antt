@@ -2,5 +2,7 @@ pub mod Runs
 pub mod Orderly
 pub mod Orders
 pub mod Given
+pub mod Inputs
+pub mod Accounts
 pub mod Told
 pub mod Truth

@@ -1,6 +1,8 @@
 //! Laws over the definitions alone. Each is a function that does nothing: its contract is the law.
 ghost use Rattle.rl_worldtold.specs.Orderly.{PutsComeBeforeGone, HistoriesAreOrderly};
 ghost use Rattle.rl_worldtold.specs.Given.{BooksAreDecided, NumbersAreGivenOnce, GenerationsAreGivenOnce};
+ghost use Rattle.rl_worldtold.specs.Inputs.{ClientsAreOfTheirInputs};
+ghost use Rattle.rl_worldtold.specs.Accounts.{AllAccountedFor};
 ghost use Rattle.rl_worldtold.specs.Told.{AnswersAreTold};
 
 /// In every channel's history no Put of a connection comes after a Gone of it.
@@ -31,6 +33,20 @@ pub fn numbers_are_given_once()
 #[tactic(auto, using(crate::proofs::Generations::generations_are_given_once))]
 pub fn generations_are_given_once()
     ensures { GenerationsAreGivenOnce }
+{}
+
+/// A client of a world is what the inputs that actions gave it make of a new one: so every law over a client's inputs is one
+/// over runs.
+#[tactic(auto, using(crate::proofs::Inputs::clients_are_of_their_inputs))]
+pub fn clients_are_of_their_inputs()
+    ensures { ClientsAreOfTheirInputs }
+{}
+
+/// Each frame that a client queued was answered by an ACK or a NACK, waits, or was given up with its connection; and those
+/// that were given up are counted in `dropped`, up to its type's end (RTN7a, RTN7e).
+#[tactic(auto, using(crate::proofs::Accounts::all_accounted_for))]
+pub fn all_accounted_for()
+    ensures { AllAccountedFor }
 {}
 
 /// Each ACK that a client lists is of a Put that a channel took; each NACK is of one that a channel refused with its code,
