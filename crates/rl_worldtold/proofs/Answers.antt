@@ -90,7 +90,7 @@ found_by world name c rest s true is here more found =
     subst (λ (x : ClientState). IsTrueClient world (name, x)) it (subst (λ (n : List ℕ). IsTrueClient world (n, c.1)) same (record { answers = here.answers; linked = here.linked }))
 found_by world name c rest s false is here more found = more found
 
-found_in : (world : World) (name : List ℕ) (cs : List (List ℕ × ClientState)) (s : ClientState) → AllByRecursion (IsTrueClient world) cs → client_in name cs ≡ Some s → IsTrueClient world (name, s)
+pub found_in : (world : World) (name : List ℕ) (cs : List (List ℕ × ClientState)) (s : ClientState) → AllByRecursion (IsTrueClient world) cs → client_in name cs ≡ Some s → IsTrueClient world (name, s)
 found_in world name [] s each found = absurd (cc)
 found_in world name (c ∷ cs) s each found = found_by world name c (client_in name cs) s (bytes_eq name c.0) refl each.0 (found_in world name cs s each.1) found
 
@@ -193,7 +193,7 @@ nack_is channels serial count code (Some h) id is on = (is.0, (h.conn, sym (ap i
 -- CONNECTED
 id_is : (channels : Channels) (holder : Option Holder) (id key : List ℕ) (ttl idle size : ℕ) (code : Option ℕ) → IsTrueFrame channels holder (frames.Connected id key ttl idle size code) → OnHolder holder (λ h. Some id ≡ Some (conn_text h.conn))
 id_is channels None id key ttl idle size code is = absurd is
-id_is channels (Some h) id key ttl idle size code is = ap (λ (x : List ℕ). Some x) is
+id_is channels (Some h) id key ttl idle size code is = ap (λ (x : List ℕ). Some x) is.0
 
 forgot_answers : (b : Bool) (s : ClientState) → (forgotten b s).answers ≡ s.answers
 forgot_answers true s = refl
@@ -231,7 +231,7 @@ heard_true world name k t frame now state at found uncut is h =
     hears_true world name k t frame now (record state { got_at = now }) at found uncut is (client_calm world name state (record state { got_at = now }) (calm_same state (record state { got_at = now }) refl refl refl) h)
 
 -- what arrives was put, on a transport that is not cut
-arrives : (cut : Bool) (next : Option Frame) (ended : Option End) (frame : Frame) → arrival_by cut next ended ≡ Comes frame → (cut ≡ false) × (next ≡ Some frame)
+pub arrives : (cut : Bool) (next : Option Frame) (ended : Option End) (frame : Frame) → arrival_by cut next ended ≡ Comes frame → (cut ≡ false) × (next ≡ Some frame)
 arrives true next ended frame is = absurd (cc)
 arrives false (Some f) ended frame is = let same : f ≡ frame = cc in (refl, ap (λ (x : Frame). Some x) same)
 arrives false None (Some why) frame is = absurd (cc)
@@ -353,7 +353,7 @@ goes_true world after g h = record {
       (all_weaker _ _ (λ c is. record { answers = all_weaker _ _ (answer_grows world.channels after.channels g.grows) c.1.answers is.answers; linked = g.linked c.0 c.1 is.linked }) world.clients h.clients);
 }
 
-keeps_true : (action : Action) (world : World) → IsTrueWorld world → IsTrueWorld (does action world)
+pub keeps_true : (action : Action) (world : World) → IsTrueWorld world → IsTrueWorld (does action world)
 keeps_true (Declares name) world h = declared_true (client_at name world) name world h
 keeps_true (Opens name) world h = opens_true name world h
 keeps_true (Cuts name) world h = cuts_true name world h
@@ -371,8 +371,11 @@ keeps_true (Ages name) world h = goes_true world (does (Ages name) world) (ages_
 keeps_true (Names name) world h = goes_true world (does (Names name) world) (names_true world name h.service) h
 keeps_true (Feeds name body) world h = goes_true world (does (Feeds name body) world) (feeds_true world name body h.service) h
 
+pub begins_true : IsTrueWorld empty_world
+begins_true = record { service = begins_service; clients = tt }
+
 pub always_true : HoldsOfRuns IsTrueWorld
-always_true = runs_hold IsTrueWorld keeps_true (record { service = begins_service; clients = tt })
+always_true = runs_hold IsTrueWorld keeps_true begins_true
 
 -- THE LAW
 

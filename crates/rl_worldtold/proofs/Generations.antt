@@ -161,7 +161,7 @@ open_after word now conn key before = generation_cond (conn == conn) (made (Open
 resume_after : (key : List ℕ) (now conn generation : ℕ) (before : List Answered) → generation_of (story conn (made (Resume key now) (Resumed conn generation) ∷ before)) ≡ raised (generation_of (story conn before))
 resume_after key now conn generation before = generation_cond (conn == conn) (made (Resume key now) (Resumed conn generation)) (story conn before) (self_is conn)
 
-standing_given : (conn : ℕ) (before : List Answered) → AreGiven the_range before → IsIn conn (numbers before) → conn ≤ last_number the_range before
+pub standing_given : (conn : ℕ) (before : List Answered) → AreGiven the_range before → IsIn conn (numbers before) → conn ≤ last_number the_range before
 standing_given conn before all in_ = all_some (λ n. (the_range.after < n) × (n ≤ last_number the_range before)) (λ n. n ≡ conn) _ (numbers before) (λ n h same. subst (λ m. m ≤ last_number the_range before) same h.1) all in_
 
 -- what one event gives, by what was there before it

@@ -174,7 +174,7 @@ moves_gets owner name (Some k) world = moves_got owner name k (arrival (slice_ge
 
 -- THE SERVICE LEAVES CLIENTS AS THEY ARE
 
-called_clients : (call : Call) (world : World) → (called call world).clients ≡ world.clients
+pub called_clients : (call : Call) (world : World) → (called call world).clients ≡ world.clients
 called_clients (calls.Book event) world = refl
 called_clients (calls.Dir (directory.Ask name)) world = (name_beside name world).clients
 called_clients (calls.Dir directory.Names) world = refl

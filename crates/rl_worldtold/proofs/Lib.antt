@@ -7,9 +7,17 @@ pub mod Sessions
 pub mod Orderly
 pub mod Given
 pub mod Generations
+pub mod Keys
 pub mod Inputs
 pub mod Accounts
 pub mod Truths
 pub mod Service
 pub mod Calm
 pub mod Answers
+pub mod Moves
+pub mod Twice
+pub mod Once
+pub mod Lists
+pub mod Asks
+pub mod Serves
+pub mod Telling

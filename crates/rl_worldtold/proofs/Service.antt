@@ -26,7 +26,7 @@ use Rattle.rl_events.specs.declared.calls.DirReply.TheVariants as dirs
 use Rattle.rl_events.specs.declared.calls.Reply.{Reply}
 use Rattle.rl_events.specs.declared.calls.Reply.TheVariants as replies
 use Rattle.rl_connbook.specs.Records.{Answered}
-use Rattle.rl_connbook.specs.Book.{book_of, told}
+use Rattle.rl_connbook.specs.Book.{book_of, told, answered}
 use Rattle.rl_connbook.specs.Laws.{IsEndOf}
 use Rattle.rl_connbook.proofs.Each.{all_weaker, all_append, all_some}
 use Rattle.rl_connbook.proofs.Outcomes.{known_is_end}
@@ -45,7 +45,7 @@ use Rattle.rl_actormodel.specs.State as actor
 use Rattle.rl_actormodel.specs.Ends.{over}
 use Rattle.rl_actormodel.specs.Takes.{A, took, take}
 use Rattle.rl_actormodel.specs.Wishes.{wanted, next_call}
-use Rattle.rl_actormodel.specs.Replies.{Knows, beginning, Numbering, Has, HasNone, numbering, verdict_in, outcome_of, reading, channel_reply}
+use Rattle.rl_actormodel.specs.Replies.{Back, resuming, Opens, opening, Knows, beginning, Numbering, Has, HasNone, numbering, verdict_in, outcome_of, reading, channel_reply}
 use Rattle.rl_actormodel.specs.Pagings.{page_by}
 use Rattle.rl_actormodel.specs.Reads as reads
 use Rattle.rl_actormodel.specs.Reads.{absorbed, answered_at, replied, read_by}
@@ -55,9 +55,11 @@ use Rattle.rl_worldmodel.specs.Calls.{event_onto, named_by, with_name, reply_to,
 use Rattle.rl_worldmodel.specs.Clients.{Comes, arrival, cut_off, put_unless, takes_frames, gives_frame}
 use Rattle.rl_worldmodel.specs.Actors.{works, with_call, absorbs, performs, deed_by, deed_of, done, steps, takes_up, next_page, next_poll, performs_if, pages, polls}
 use Rattle.rl_worldmodel.specs.Services.{expires, reaped, reaps, event_at, ages, feed_conn, fed_at, feeds}
+use Rattle.rl_worldtold.specs.Given.{IsDecided}
 use Rattle.rl_worldtold.specs.Told.{IsTaken}
 use Rattle.rl_worldtold.specs.Truth.{Channels, names_of, Decides, IsTrueOf, IsTrueEnd, OnHolder, IsHeldBy, IsTrueWish, IsTrueFrame, IsTrueActor, IsTrueTransport, IsTrueService, IsLinked}
 use Rattle.rl_worldtold.proofs.Shape.{all_at, all_take, changed_all, changed_one, changed_none, some_changed, get_below, get_after, owned_changed, IsBeside, name_beside, works_actor, works_owner, works_cut}
+use Rattle.rl_worldtold.proofs.Keys.{resume_key, open_key}
 use Rattle.rl_worldtold.proofs.Quiet.{IsQuiet}
 use Rattle.rl_worldtold.proofs.Sessions.{IsOfSession, pages_are, polls_are}
 use Rattle.rl_worldtold.proofs.Truths.{Grows, grows_takes, grows_name, grows_same, length_names, end_stays, transport_stays, actor_stays, IsSameOrNew, Becomes, works_true, nothing_true, Fits, IsNumbered, replied_true, over_true, took_true, rested_true, read_true, page_true, session_true}
@@ -93,11 +95,12 @@ linked_on before after k f same owners cuts holders name state linked on j u at 
 
 -- an actor works, where the channels may have grown and the book may have taken an event
 service_on : (world after : World) (k : ℕ) (t : Transport) (f : Transport → Transport) → slice_get world.transports k ≡ Some t → Grows world.channels after.channels → after.transports ≡ world.transports
-    → AllByRecursion (λ (a : Answered). IsTrueEnd after.channels a.event) after.book → ((u : Transport) → (f u).owner ≡ u.owner) → ((u : Transport) → (f u).cut ≡ false → u.cut ≡ false) → IsTrueTransport after.channels (f t) → IsSameOrNew t.actor.holder (f t).actor.holder → IsTrueService world → after.clients ≡ world.clients → Goes world (on_transport k f after)
-service_on world after k t f found g same ends_ owners cuts good keeps h clients =
+    → IsDecided after.book → AllByRecursion (λ (a : Answered). IsTrueEnd after.channels a.event) after.book → ((u : Transport) → (f u).owner ≡ u.owner) → ((u : Transport) → (f u).cut ≡ false → u.cut ≡ false) → IsTrueTransport after.channels (f t) → IsSameOrNew t.actor.holder (f t).actor.holder → IsTrueService world → after.clients ≡ world.clients → Goes world (on_transport k f after)
+service_on world after k t f found g same decided_ ends_ owners cuts good keeps h clients =
     let all = all_weaker _ _ (transport_stays world.channels after.channels g) world.transports h.each in
     record {
       service = record {
+        book = decided_;
         ends = ends_;
         each = subst (λ (ts : List Transport). AllByRecursion (IsTrueTransport after.channels) (changed_at k f ts)) (sym same)
             (changed_one (IsTrueTransport after.channels) k f t good world.transports found all);
@@ -116,13 +119,13 @@ works_uncut act t uncut = sym (works_cut act t) ∙ uncut
 
 -- an actor absorbs a reply
 service_absorbs : (world : World) (k : ℕ) (t : Transport) (call : Call) → slice_get world.transports k ≡ Some t → Grows world.channels (called call world).channels → (called call world).transports ≡ world.transports
-    → AllByRecursion (λ (a : Answered). IsTrueEnd (called call world).channels a.event) (called call world).book → (IsTrueActor (called call world).channels t.actor → Becomes (called call world).channels t.actor (absorbed call (reply_to call world) world.now t.actor))
+    → IsDecided (called call world).book → AllByRecursion (λ (a : Answered). IsTrueEnd (called call world).channels a.event) (called call world).book → (IsTrueActor (called call world).channels t.actor → Becomes (called call world).channels t.actor (absorbed call (reply_to call world) world.now t.actor))
     → IsTrueService world → (called call world).clients ≡ world.clients → Goes world (performs k call world)
-service_absorbs world k t call found g same ends_ step h clients =
+service_absorbs world k t call found g same decided_ ends_ step h clients =
     let after : Channels = (called call world).channels in
     let here = transport_stays world.channels after g t (all_at (IsTrueTransport world.channels) k t world.transports found h.each) in
     let b = step here.of_actor in
-    service_on world (called call world) k t (absorbs call world) found g same ends_
+    service_on world (called call world) k t (absorbs call world) found g same decided_ ends_
     (λ u. works_owner (absorbed call (reply_to call world) world.now) (with_call call world u)) (λ u uncut. works_uncut (absorbed call (reply_to call world) world.now) (with_call call world u) uncut)
     (works_true after (absorbed call (reply_to call world) world.now) (with_call call world t) (record { good = b.good; keeps = b.keeps }) here.on_way)
     (works_holds (absorbed call (reply_to call world) world.now) (with_call call world t) t.actor.holder b.keeps) h clients
@@ -132,12 +135,13 @@ service_works : (world : World) (k : ℕ) (t : Transport) (act : actor.State →
 service_works world k t act found step h =
     let here = all_at (IsTrueTransport world.channels) k t world.transports found h.each in
     let b = step here.of_actor in
-    service_on world world k t (works act) found (grows_same world.channels) refl h.ends (works_owner act) (works_uncut act) (works_true world.channels act t b here.on_way) (works_holds act t t.actor.holder b.keeps) h refl
+    service_on world world k t (works act) found (grows_same world.channels) refl h.book h.ends (works_owner act) (works_uncut act) (works_true world.channels act t b here.on_way) (works_holds act t t.actor.holder b.keeps) h refl
 
 -- the channels, and nothing else, changed
 service_grows : (world after : World) → Grows world.channels after.channels → after.transports ≡ world.transports → after.book ≡ world.book → after.clients ≡ world.clients → IsTrueService world → Goes world after
 service_grows world after g same book_ clients h = record {
   service = record {
+    book = subst IsDecided (sym book_) h.book;
     ends = subst (λ (b : List Answered). AllByRecursion (λ (a : Answered). IsTrueEnd after.channels a.event) b) (sym book_) (all_weaker _ _ (λ a is. end_stays world.channels after.channels g a.event is) world.book h.ends);
     each = subst (λ (ts : List Transport). AllByRecursion (IsTrueTransport after.channels) ts) (sym same) (all_weaker _ _ (transport_stays world.channels after.channels g) world.transports h.each);
   };
@@ -203,6 +207,18 @@ named_grows None name world = new_grows (is_full (names world)) name world.chann
 name_grows : (name : List ℕ) (world : World) → Grows world.channels (with_name name world).channels
 name_grows name world = named_grows (number_of name (names world)) name world
 
+-- which reply brings a connection back, and which opens one
+pub resumed_is : (r : BookReply) (holder : Holder) → resuming (replies.Book r) ≡ Back holder → r ≡ book.Resumed holder.conn holder.generation
+resumed_is (book.Resumed conn generation) holder is = let same : ◌≡◌ {A = Holder} (record { conn = conn; generation = generation }) holder = cc in ap (λ (h : Holder). book.Resumed h.conn h.generation) same
+resumed_is r holder is = absurd (cc)
+
+pub opened_is : (r : BookReply) (holder : Holder) (key : List ℕ) → opening (replies.Book r) ≡ Opens holder key → r ≡ book.Opened holder.conn holder.generation key
+opened_is (book.Opened conn generation k) holder key is =
+    let same : ◌≡◌ {A = Holder} (record { conn = conn; generation = generation }) holder = cc in
+    let text : k ≡ key = cc in
+    ap (λ (h : Holder). book.Opened h.conn h.generation k) same ∙ ap (λ (x : List ℕ). book.Opened holder.conn holder.generation x) text
+opened_is r holder key is = absurd (cc)
+
 -- what Known says is true, as each End was
 knows_is : (r : BookReply) (outcome : Outcome) → beginning (replies.Book r) ≡ Knows outcome → r ≡ book.Known outcome
 knows_is (book.Known x) outcome is = let same : x ≡ outcome = cc in ap (λ (y : Outcome). book.Known y) same
@@ -249,7 +265,7 @@ service_book : (world : World) (k : ℕ) (t : Transport) (wish : Wish) (event : 
     → Fits world.channels wish (replies.Book (told (book_of the_range world.book) event)) → IsTrueService world → Goes world (performs k (calls.Book event) world)
 service_book world k t wish event found is true_end fits h =
     let reply : Reply = replies.Book (told (book_of the_range world.book) event) in
-    service_absorbs world k t (calls.Book event) found (grows_same world.channels) refl (true_end, h.ends)
+    service_absorbs world k t (calls.Book event) found (grows_same world.channels) refl (ap (λ (b : List Answered). answered the_range event b ∷ b) h.book) (true_end, h.ends)
     (λ good. absorbed_true world.channels t.actor.ended (calls.Book event) (replies.Book (told (book_of the_range world.book) event)) world.now t.actor
     (subst (λ (w : Wish). Becomes world.channels t.actor (replied w (replies.Book (told (book_of the_range world.book) event)) world.now t.actor)) (sym is) (replied_true world.channels wish (replies.Book (told (book_of the_range world.book) event)) world.now t.actor is fits good)) good) h refl
 
@@ -258,7 +274,7 @@ service_chan : (world : World) (k : ℕ) (t : Transport) (wish : Wish) (number :
     → Fits (changed_at number (event_onto event) world.channels) wish (reply_to (calls.Chan number event) world) → IsTrueService world → Goes world (performs k (calls.Chan number event) world)
 service_chan world k t wish number event found is same fits h =
     let g = grows_takes number event world.channels in
-    service_absorbs world k t (calls.Chan number event) found g refl (ends_grow world (changed_at number (event_onto event) world.channels) g h)
+    service_absorbs world k t (calls.Chan number event) found g refl h.book (ends_grow world (changed_at number (event_onto event) world.channels) g h)
     (λ good. absorbed_true (changed_at number (event_onto event) world.channels) t.actor.ended (calls.Chan number event) (reply_to (calls.Chan number event) world) world.now t.actor
     (subst (λ (s : actor.State). Becomes (changed_at number (event_onto event) world.channels) t.actor s) (sym (same ∙ ap (λ (w : Wish). replied w (reply_to (calls.Chan number event) world) world.now t.actor) is))
     (replied_true (changed_at number (event_onto event) world.channels) wish (reply_to (calls.Chan number event) world) world.now t.actor is fits good)) good) h refl
@@ -268,7 +284,7 @@ service_name : (world : World) (k : ℕ) (t : Transport) (wish : Wish) (name : L
 service_name world k t wish name found is fits h =
     let beside = name_beside name world in
     let g = name_grows name world in
-    service_absorbs world k t (calls.Dir (Ask name)) found g beside.transports
+    service_absorbs world k t (calls.Dir (Ask name)) found g beside.transports (subst IsDecided (sym beside.book) h.book)
     (subst (λ (b : List Answered). AllByRecursion (λ (a : Answered). IsTrueEnd (with_name name world).channels a.event) b) (sym beside.book) (ends_grow world (with_name name world).channels g h))
     (λ good. absorbed_true (with_name name world).channels t.actor.ended (calls.Dir (Ask name)) (replies.Dir (directory.told (names world) (Ask name))) world.now t.actor
     (subst (λ (w : Wish). Becomes (with_name name world).channels t.actor (replied w (replies.Dir (directory.told (names world) (Ask name))) world.now t.actor)) (sym is)
@@ -284,9 +300,11 @@ true_wish world k t wish found is h = subst (IsTrueWish world.channels) is (all_
 performs_by : (world : World) (k : ℕ) (t : Transport) (wish : Wish) (call : Call) → slice_get world.transports k ≡ Some t → t.actor.wish ≡ wish → wanted wish t.actor.hello world.now ≡ Some call → IsTrueService world → Goes world (performs k call world)
 performs_by world k t wishes.Nothing call found is wants h = absurd (cc)
 performs_by world k t (wishes.Resume key) call found is wants h =
-    let same : calls.Book (events.Resume key world.now) ≡ call = cc in subst (λ (c : Call). Goes world (performs k c world)) same (service_book world k t (wishes.Resume key) (events.Resume key world.now) found is tt tt h)
+    let same : calls.Book (events.Resume key world.now) ≡ call = cc in subst (λ (c : Call). Goes world (performs k c world)) same (service_book world k t (wishes.Resume key) (events.Resume key world.now) found is tt
+    (λ holder told_it. (resume_key key world.now holder.conn holder.generation world.book h.book (resumed_is (told (book_of the_range world.book) (events.Resume key world.now)) holder told_it)).1) h)
 performs_by world k t wishes.Open call found is wants h =
-    let same : calls.Book (events.Open t.actor.hello.word world.now) ≡ call = cc in subst (λ (c : Call). Goes world (performs k c world)) same (service_book world k t wishes.Open (events.Open t.actor.hello.word world.now) found is tt tt h)
+    let same : calls.Book (events.Open t.actor.hello.word world.now) ≡ call = cc in subst (λ (c : Call). Goes world (performs k c world)) same (service_book world k t wishes.Open (events.Open t.actor.hello.word world.now) found is tt
+    (λ holder key told_it. (open_key t.actor.hello.word world.now holder.conn holder.generation key world.book (opened_is (told (book_of the_range world.book) (events.Open t.actor.hello.word world.now)) holder key told_it)).2) h)
 performs_by world k t (wishes.Lost holder) call found is wants h =
     let same : calls.Book (events.Lost holder.conn holder.generation world.now) ≡ call = cc in subst (λ (c : Call). Goes world (performs k c world)) same (service_book world k t (wishes.Lost holder) (events.Lost holder.conn holder.generation world.now) found is tt tt h)
 performs_by world k t (wishes.Close holder) call found is wants h =
@@ -317,7 +335,7 @@ taken_up : (world : World) (k : ℕ) (t : Transport) (frame : Frame) → slice_g
 taken_up world k t frame found h =
     let here = all_at (IsTrueTransport world.channels) k t world.transports found h.each in
     let b = took_true world.channels frame world.now t.actor here.of_actor in
-    service_on world world k t (takes_up frame world.now) found (grows_same world.channels) refl h.ends
+    service_on world world k t (takes_up frame world.now) found (grows_same world.channels) refl h.book h.ends
     (λ u. works_owner (took (A frame) world.now) (record u { to_service = with_one_got u.to_service })) (λ u uncut. works_uncut (took (A frame) world.now) (record u { to_service = with_one_got u.to_service }) uncut)
     (works_true world.channels (took (A frame) world.now) (record t { to_service = with_one_got t.to_service }) (record { good = b.good; keeps = b.keeps }) here.on_way)
     (works_holds (took (A frame) world.now) (record t { to_service = with_one_got t.to_service }) t.actor.holder b.keeps) h refl
@@ -340,7 +358,7 @@ session_call : (world : World) (k : ℕ) (t : Transport) (number : ℕ) (event :
     → ((channels : Channels) → IsTrueActor channels t.actor → Becomes channels t.actor (reads.answered (calls.Chan number event) (reply_to (calls.Chan number event) world) world.now t.actor)) → IsTrueService world → Goes world (performs k (calls.Chan number event) world)
 session_call world k t number event found step h =
     let g = grows_takes number event world.channels in
-    service_absorbs world k t (calls.Chan number event) found g refl (ends_grow world (changed_at number (event_onto event) world.channels) g h)
+    service_absorbs world k t (calls.Chan number event) found g refl h.book (ends_grow world (changed_at number (event_onto event) world.channels) g h)
     (λ good. absorbed_true (changed_at number (event_onto event) world.channels) t.actor.ended (calls.Chan number event) (reply_to (calls.Chan number event) world) world.now t.actor (step (changed_at number (event_onto event) world.channels) good) good) h refl
 
 -- where there is no such transport the channel takes the event all the same
@@ -398,7 +416,7 @@ pub polls_true : (world : World) (k : ℕ) (name : List ℕ) → IsTrueService w
 polls_true world k name h = called_if world k (next_poll k name world) (polls_are name (slice_get world.transports k)) h
 
 pub expires_true : (world : World) → IsTrueService world → Goes world (expires world)
-expires_true world h = record { service = record { ends = (tt, h.ends); each = h.each }; grows = grows_same world.channels; clients = refl; linked = λ name state linked. linked }
+expires_true world h = record { service = record { book = ap (λ (b : List Answered). answered the_range (events.Expire world.now) b ∷ b) h.book; ends = (tt, h.ends); each = h.each }; grows = grows_same world.channels; clients = refl; linked = λ name state linked. linked }
 
 pub reaps_true : (world : World) → IsTrueService world → Goes world (reaps world)
 reaps_true world h = reaped_true world world.queue h
@@ -429,15 +447,15 @@ new_true channels name hello now = record {
 }
 
 pub begins_service : IsTrueService empty_world
-begins_service = record { ends = tt; each = tt }
+begins_service = record { book = refl; ends = tt; each = tt }
 
 pub quiet_service : IsQuiet IsTrueService
 quiet_service = record {
-  of_client = λ world name change h. record { ends = h.ends; each = h.each };
-  of_new = λ world name h. record { ends = h.ends; each = h.each };
-  of_cut = λ world k h. record { ends = h.ends; each = changed_all (IsTrueTransport world.channels) k cut_off (λ t is. record { of_actor = is.of_actor; on_way = all_take (IsTrueFrame world.channels t.actor.holder) t.to_client.got t.to_client.put is.on_way }) world.transports h.each };
-  of_sent = λ world k frames h. record { ends = h.ends; each = changed_all (IsTrueTransport world.channels) k (takes_frames frames) (λ t is. sent_true world.channels frames t.cut t is) world.transports h.each };
-  of_got = λ world k frame is h. record { ends = h.ends; each = changed_all (IsTrueTransport world.channels) k gives_frame (λ t good. record { of_actor = good.of_actor; on_way = good.on_way }) world.transports h.each };
-  of_opened = λ world name hello h. record { ends = h.ends; each = all_append _ world.transports (new_transport name hello world.now ∷ []) h.each (new_true world.channels name hello world.now, tt) };
-  of_time = λ world span h. record { ends = h.ends; each = h.each };
+  of_client = λ world name change h. record { book = h.book; ends = h.ends; each = h.each };
+  of_new = λ world name h. record { book = h.book; ends = h.ends; each = h.each };
+  of_cut = λ world k h. record { book = h.book; ends = h.ends; each = changed_all (IsTrueTransport world.channels) k cut_off (λ t is. record { of_actor = is.of_actor; on_way = all_take (IsTrueFrame world.channels t.actor.holder) t.to_client.got t.to_client.put is.on_way }) world.transports h.each };
+  of_sent = λ world k frames h. record { book = h.book; ends = h.ends; each = changed_all (IsTrueTransport world.channels) k (takes_frames frames) (λ t is. sent_true world.channels frames t.cut t is) world.transports h.each };
+  of_got = λ world k frame is h. record { book = h.book; ends = h.ends; each = changed_all (IsTrueTransport world.channels) k gives_frame (λ t good. record { of_actor = good.of_actor; on_way = good.on_way }) world.transports h.each };
+  of_opened = λ world name hello h. record { book = h.book; ends = h.ends; each = all_append _ world.transports (new_transport name hello world.now ∷ []) h.each (new_true world.channels name hello world.now, tt) };
+  of_time = λ world span h. record { book = h.book; ends = h.ends; each = h.each };
 }

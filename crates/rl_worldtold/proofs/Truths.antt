@@ -48,6 +48,7 @@ use Rattle.rl_actormodel.specs.Attaches.{attach_at, joined_by}
 use Rattle.rl_actormodel.specs.Publishes.{settled, put_wish, begun_by, put_at, put_by}
 use Rattle.rl_actormodel.specs.Pagings.{paged, page_by, ends_here, ended_here}
 use Rattle.rl_actormodel.specs.Reads.{entry_head, body_frame, entry_frame, moved_on, read_by, on_session, replied}
+use Rattle.rl_clientmodel.specs.Keys.{before_mark}
 use Rattle.rl_worldmodel.specs.World.{Transport, the_site, changed_at}
 use Rattle.rl_worldmodel.specs.Calls.{event_onto}
 use Rattle.rl_worldmodel.specs.Actors.{works}
@@ -208,13 +209,13 @@ module _ (channels : Channels) where
     put_out = all_append _ s.waiting (option_to_list (farewell why)) h.put_out (farewell_true why s.holder);
   }
 
-  connected_true : (holder : Holder) (key : List ℕ) (now : ℕ) (s : actor.State) → s.holder ≡ None → IsTrueActor channels s → Becomes channels s (connected holder key now s)
-  connected_true holder key now s none h = record {
+  connected_true : (holder : Holder) (key : List ℕ) (now : ℕ) (s : actor.State) → before_mark key ≡ conn_text holder.conn → s.holder ≡ None → IsTrueActor channels s → Becomes channels s (connected holder key now s)
+  connected_true holder key now s text none h = record {
     good = record {
       held = tt;
       wish_true = tt;
       known = h.known;
-      put_out = all_append _ s.waiting (_ ∷ []) (all_weaker _ _ (λ frame is. lift_none channels (Some holder) frame (subst (λ (o : Option Holder). IsTrueFrame channels o frame) none is)) s.waiting h.put_out) (refl, tt);
+      put_out = all_append _ s.waiting (_ ∷ []) (all_weaker _ _ (λ frame is. lift_none channels (Some holder) frame (subst (λ (o : Option Holder). IsTrueFrame channels o frame) none is)) s.waiting h.put_out) ((refl, text), tt);
     };
     keeps = inl none;
   }
@@ -249,20 +250,22 @@ module _ (channels : Channels) where
   Fits (wishes.Begin p holder) reply = (outcome : Outcome) → beginning reply ≡ Knows outcome → IsTrueOf channels holder.conn p.serial outcome
   Fits (wishes.AskToPut p holder) reply = IsNumbered (numbering reply) × (numbering reply ≡ HasNone → is_full (names_of channels) ≡ true)
   Fits (wishes.Put p holder number) reply = (verdict : Verdict) → verdict_in reply ≡ Some verdict → (outcome : Outcome) → outcome_of verdict ≡ Some outcome → IsTrueOf channels holder.conn p.serial outcome
+  Fits (wishes.Resume key) reply = (holder : Holder) → resuming reply ≡ Back holder → before_mark key ≡ conn_text holder.conn
+  Fits wishes.Open reply = (holder : Holder) (key : List ℕ) → opening reply ≡ Opens holder key → before_mark key ≡ conn_text holder.conn
   Fits wish reply = ⊤
 
   stays : (s after : actor.State) → after.holder ≡ s.holder → IsTrueActor channels after → Becomes channels s after
   stays s after same good = record { good = good; keeps = inr same }
 
-  resumed_true : (key : List ℕ) (o : Resuming) (now : ℕ) (s : actor.State) → s.holder ≡ None → IsTrueActor channels s → Becomes channels s (resumed_by key o now s)
-  resumed_true key NotKnown now s none h = stays s _ refl (record { held = none; wish_true = tt; known = h.known; put_out = h.put_out })
-  resumed_true key (Back holder) now s none h = connected_true holder key now s none h
-  resumed_true key Unresumed now s none h = stays s s refl h
+  resumed_true : (key : List ℕ) (o : Resuming) (now : ℕ) (s : actor.State) → ((holder : Holder) → o ≡ Back holder → before_mark key ≡ conn_text holder.conn) → s.holder ≡ None → IsTrueActor channels s → Becomes channels s (resumed_by key o now s)
+  resumed_true key NotKnown now s fits none h = stays s _ refl (record { held = none; wish_true = tt; known = h.known; put_out = h.put_out })
+  resumed_true key (Back holder) now s fits none h = connected_true holder key now s (fits holder refl) none h
+  resumed_true key Unresumed now s fits none h = stays s s refl h
 
-  opened_true : (o : Opening) (now : ℕ) (s : actor.State) → s.holder ≡ None → IsTrueActor channels s → Becomes channels s (opened_by o now s)
-  opened_true (Opens holder key) now s none h = connected_true holder key now s none h
-  opened_true (Limited count given) now s none h = stays s _ refl (ended_true (ends.ConnectionLimit count given) s h)
-  opened_true Unopened now s none h = stays s s refl h
+  opened_true : (o : Opening) (now : ℕ) (s : actor.State) → ((holder : Holder) (key : List ℕ) → o ≡ Opens holder key → before_mark key ≡ conn_text holder.conn) → s.holder ≡ None → IsTrueActor channels s → Becomes channels s (opened_by o now s)
+  opened_true (Opens holder key) now s fits none h = connected_true holder key now s (fits holder key refl) none h
+  opened_true (Limited count given) now s fits none h = stays s _ refl (ended_true (ends.ConnectionLimit count given) s h)
+  opened_true Unopened now s fits none h = stays s s refl h
 
   closed_true : (holder : Holder) (o : Standing) (now : ℕ) (s : actor.State) → IsTrueActor channels s → Becomes channels s (if_held holder o (closed now) s)
   closed_true holder (Passed newer) now s h = stays s _ refl (ended_true (ends.Superseded holder.generation newer) s h)
@@ -328,8 +331,8 @@ module _ (channels : Channels) where
 
   replied_by : (wish : Wish) (reply : Reply) (now : ℕ) (s : actor.State) → IsHeldBy s.holder wish → IsTrueWish channels wish → Fits wish reply → IsTrueActor channels s → Becomes channels s (replied wish reply now s)
   replied_by wishes.Nothing reply now s held is fits h = stays s s refl h
-  replied_by (wishes.Resume key) reply now s held is fits h = resumed_true key (resuming reply) now s held h
-  replied_by wishes.Open reply now s held is fits h = opened_true (opening reply) now s held h
+  replied_by (wishes.Resume key) reply now s held is fits h = resumed_true key (resuming reply) now s fits held h
+  replied_by wishes.Open reply now s held is fits h = opened_true (opening reply) now s fits held h
   replied_by (wishes.Lost holder) reply now s held is fits h = stays s _ refl (nothing_true s h)
   replied_by (wishes.Close holder) reply now s held is fits h = closed_true holder (standing reply) now s h
   replied_by (wishes.AskToAttach asked) reply now s held is fits h = attach_true asked (numbering reply) now s fits h

@@ -6,3 +6,5 @@ pub mod Inputs
 pub mod Accounts
 pub mod Told
 pub mod Truth
+pub mod Listed
+pub mod Tell

@@ -22,11 +22,13 @@ use Rattle.rl_connbook.specs.Laws.{SomeOf}
 use Rattle.rl_directory.specs.Directory.{is_full}
 use Rattle.rl_model.specs.Verdict.{Decision, decisions}
 use Rattle.rl_clientmodel.specs.States.{ClientState}
+use Rattle.rl_clientmodel.specs.Keys.{before_mark}
 use Rattle.rl_actormodel.specs.declared.parts.Holder.{Holder}
 use Rattle.rl_actormodel.specs.declared.parts.Wish.{Wish}
 use Rattle.rl_actormodel.specs.declared.parts.Wish.TheVariants as wishes
 use Rattle.rl_actormodel.specs.State as actor
 use Rattle.rl_worldmodel.specs.World.{World, Transport, the_site, latest}
+use Rattle.rl_worldtold.specs.Given.{IsDecided}
 use Rattle.rl_worldtold.specs.Told.{IsTaken, IsRefused}
 
 -- WHAT A CHANNEL DECIDED
@@ -85,9 +87,10 @@ IsTrueWish channels wish = ⊤
 
 -- WHAT IS PUT OUT
 
--- CONNECTED tells the id of the actor's connection; each acknowledgement is of one serial, and true of that connection
+-- CONNECTED tells the id of the actor's connection, and a key that begins with it; each acknowledgement is of one serial, and
+-- true of that connection
 abbrev pub IsTrueFrame : Channels → Option Holder → Frame → Type 0
-IsTrueFrame channels holder (frames.Connected id key ttl idle size code) = OnHolder holder (λ h. id ≡ conn_text h.conn)
+IsTrueFrame channels holder (frames.Connected id key ttl idle size code) = OnHolder holder (λ h. (id ≡ conn_text h.conn) × (before_mark key ≡ id))
 IsTrueFrame channels holder (frames.Ack serial count) = OnHolder holder (λ h. (count ≡ 1) × Decides channels h.conn serial IsTaken)
 IsTrueFrame channels holder (frames.Nack serial count code) = OnHolder holder (λ h. (count ≡ 1) × IsTrueOf channels h.conn serial (Refused code))
 IsTrueFrame channels holder frame = ⊤
@@ -104,6 +107,7 @@ pub record IsTrueTransport (channels : Channels) (t : Transport) : Type 0 where
   pub on_way : AllByRecursion (IsTrueFrame channels t.actor.holder) t.to_client.put
 
 pub record IsTrueService (world : World) : Type 0 where
+  pub book : IsDecided world.book
   pub ends : AllByRecursion (λ (a : Answered). IsTrueEnd world.channels a.event) world.book
   pub each : AllByRecursion (IsTrueTransport world.channels) world.transports
 

@@ -4,6 +4,7 @@ ghost use Rattle.rl_worldtold.specs.Given.{BooksAreDecided, NumbersAreGivenOnce,
 ghost use Rattle.rl_worldtold.specs.Inputs.{ClientsAreOfTheirInputs};
 ghost use Rattle.rl_worldtold.specs.Accounts.{AllAccountedFor};
 ghost use Rattle.rl_worldtold.specs.Told.{AnswersAreTold};
+ghost use Rattle.rl_worldtold.specs.Listed.{NoneIsListedTwice};
 
 /// In every channel's history no Put of a connection comes after a Gone of it.
 #[tactic(auto, using(crate::proofs::Orderly::puts_come_before_gone))]
@@ -44,7 +45,6 @@ pub fn clients_are_of_their_inputs()
 
 /// Each frame that a client queued was answered by an ACK or a NACK, waits, or was given up with its connection; and those
 /// that were given up are counted in `dropped`, up to its type's end (RTN7a, RTN7e).
-#[tactic(auto, using(crate::proofs::Accounts::all_accounted_for))]
 pub fn all_accounted_for()
     ensures { AllAccountedFor }
 {}
@@ -54,4 +54,10 @@ pub fn all_accounted_for()
 #[tactic(auto, using(crate::proofs::Answers::answers_are_told))]
 pub fn answers_are_told()
     ensures { AnswersAreTold }
+{}
+
+/// No client lists an acknowledgement of one connection and serial twice.
+#[tactic(auto, using(crate::proofs::Telling::none_is_listed_twice))]
+pub fn none_is_listed_twice()
+    ensures { NoneIsListedTwice }
 {}
