@@ -1,11 +1,10 @@
 -- Each frame that a client of a world queued is accounted for.
-use Rattle.std.proofs.Common.{◌≡◌, ℕ, ◌+◌, List, length, refl, sym, ap, subst, arith}
-use Rattle.rl_clientmodel.specs.States.{ClientState}
-use Rattle.rl_clientmodel.specs.Inputs.{Input, after}
+use Rattle.std.proofs.Common.{ℕ, List, sym, subst, arith}
+use Rattle.rl_clientmodel.specs.Inputs.{after}
 use Rattle.rl_clientlaws.proofs.Sums.{accounted_for}
 use Rattle.rl_worldmodel.specs.Actions.{Action}
 use Rattle.rl_worldtold.specs.Inputs.{inputs_of}
-use Rattle.rl_worldtold.specs.Accounts.{queued, given_up, IsAccountedFor, AllAccountedFor}
+use Rattle.rl_worldtold.specs.Accounts.{IsAccountedFor, AllAccountedFor}
 use Rattle.rl_worldtold.proofs.Inputs.{clients_are_of_their_inputs}
 
 account_of : (name : List ℕ) (actions : List Action) → IsAccountedFor name actions (after name (inputs_of name actions))

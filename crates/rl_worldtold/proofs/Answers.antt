@@ -19,7 +19,6 @@ use Rattle.rl_runs.specs.declared.commands.RecoveryKey.{RecoveryKey}
 use Rattle.rl_runs.specs.declared.findings.Answer.{Answer}
 use Rattle.rl_runs.specs.declared.findings.Answer.TheVariants.{Ack, Nack}
 use Rattle.rl_connsm.specs.Rules.{connect_refused, takes_acknowledgements, awaits_connected, forgets_connection}
-use Rattle.rl_connsm.specs.declared.table.ConnEvent.{ConnEvent}
 use Rattle.rl_connsm.specs.declared.table.ConnEvent.TheVariants as events
 use Rattle.rl_ackq.specs.declared.pending.Pending.{Pending}
 use Rattle.rl_ackq.specs.Queue.{is_covered, serials, settled_serials}
@@ -27,9 +26,9 @@ use Rattle.rl_connbook.specs.Laws.{SomeOf}
 use Rattle.rl_connbook.proofs.Each.{all_weaker, all_append, some_weaker}
 use Rattle.rl_model.specs.Verdict.{Decision, decisions}
 use Rattle.rl_actormodel.specs.declared.parts.Holder.{Holder}
-use Rattle.rl_clientmodel.specs.States.{ClientState, Turn, new_state, forgotten, state_after, conn_moved}
+use Rattle.rl_clientmodel.specs.States.{ClientState, Turn, new_state, forgotten, state_after}
 use Rattle.rl_clientmodel.specs.Commands.{Refusal, refusal, by_connection, acted, hello_of}
-use Rattle.rl_clientmodel.specs.Hearing.{id_of, settle, stands_with, connected_got, hears, heard}
+use Rattle.rl_clientmodel.specs.Hearing.{id_of, settle, stands_with, hears, heard}
 use Rattle.rl_clientmodel.specs.Times.{ticked}
 use Rattle.rl_clientmodel.specs.Keys.{recovery_key, may_recover, recovered}
 use Rattle.rl_worldmodel.specs.World.{World, Transport, empty_world, the_site, new_transport, on_transport, on_client, client_in, client_at, if_named, latest, last_of}

@@ -1,5 +1,5 @@
 -- One event of the book: numbers that were given up stay away, and a connection with a put in flight stands.
-use Rattle.std.proofs.Common.{◌≡◌, ◌⊎◌, inl, inr, ℕ, zero, suc, ◌+◌, ◌-◌, ◌^◌, ◌≤◌, ◌<◌, Bool, true, false, List, [], ◌∷◌, length, map, refl, sym, ◌∙◌, ap, subst, arith, cond}
+use Rattle.std.proofs.Common.{◌≡◌, inl, inr, ℕ, zero, suc, ◌+◌, ◌-◌, ◌^◌, ◌≤◌, ◌<◌, Bool, true, false, List, [], ◌∷◌, map, refl, sym, ◌∙◌, ap, subst, arith, cond}
 use Rattle.std.specs.Prelude.{Option, Some, None, not, ◌==◌, ◌&&◌, if◌then◌else◌, nat_lt, ⊤}
 use Rattle.std.specs.List.{AllByRecursion, filter}
 use Rattle.std.specs.Map.{lookup}
@@ -13,7 +13,7 @@ use Rattle.rl_events.specs.declared.book.BookReply.TheVariants.{Opened, Go, Supe
 use Rattle.rl_events.specs.declared.channel.Outcome.{Outcome}
 use Rattle.rl_connbook.specs.declared.record.Record.{Record}
 use Rattle.rl_connbook.specs.Records.{Answered, concerns, is_of, story, record_of, busy_of, busy_after, raised, lowered}
-use Rattle.rl_connbook.specs.Book.{Book, book_of, numbers, numbers_after, last_number, is_over, is_over_by, told, answered, record_at, at_record, begun}
+use Rattle.rl_connbook.specs.Book.{book_of, numbers, numbers_after, last_number, is_over, is_over_by, told, answered, record_at, at_record, begun}
 use Rattle.rl_connbook.specs.Laws.{IsIn}
 use Rattle.rl_connbook.proofs.Each.{all_weaker, all_filter, all_some}
 use Rattle.rl_connbook.proofs.History.{Follows, follows}

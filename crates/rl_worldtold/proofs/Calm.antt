@@ -1,5 +1,5 @@
 -- What a client does but by an acknowledgement and by CONNECTED: the connection does not come to stand, and nothing is told.
-use Rattle.std.proofs.Common.{◌≡◌, ℕ, ◌+◌, Bool, true, false, List, [], ◌∷◌, refl, ◌∙◌, subst, true≢false}
+use Rattle.std.proofs.Common.{◌≡◌, ℕ, Bool, true, false, List, [], refl, ◌∙◌, subst}
 use Rattle.std.specs.Prelude.{Option, Some, None, if◌then◌else◌, ⊤, is_none, ◌&&◌}
 use Rattle.rl_ids.specs.declared.serials.ChannelSerial.{ChannelSerial}
 use Rattle.rl_types.specs.declared.frames.Frame.{Frame}
@@ -20,11 +20,11 @@ use Rattle.rl_clientmodel.specs.declared.steps.ChannelStep.{ChannelStep}
 use Rattle.rl_clientmodel.specs.declared.steps.ChannelStep.TheVariants.{DetachedGot, ErrorGot}
 use Rattle.rl_clientmodel.specs.Channels.{ClientChannel, channel_from}
 use Rattle.rl_clientmodel.specs.Entries.{entry_got, page_got, object_page_got}
-use Rattle.rl_clientmodel.specs.States.{ClientState, Turn, turn, quietly, changed, change_channel, stepped, forgotten, come_to, state_after, conn_moved, moving}
+use Rattle.rl_clientmodel.specs.States.{ClientState, quietly, changed, change_channel, stepped, forgotten, state_after, conn_moved, moving}
 use Rattle.rl_clientmodel.specs.Commands.{Refusal, refusal, acted, obeyed, obeyed_unless, attach_step, detach_step, channel_or_new, with_own, without_own}
 use Rattle.rl_clientmodel.specs.Hearing.{hears, attached_in, entered_again, error_got}
 use Rattle.rl_clientmodel.specs.Answers.{is_answer}
-use Rattle.rl_clientmodel.specs.Times.{unlinked, ticked, is_past_ttl, is_silent, waited, aged}
+use Rattle.rl_clientmodel.specs.Times.{unlinked, ticked, is_past_ttl, is_silent, waited}
 use Rattle.rl_clientmodel.specs.Keys.{may_recover, is_empty, recovered, with_key}
 use Rattle.rl_worldtold.specs.Truth.{IsOn}
 

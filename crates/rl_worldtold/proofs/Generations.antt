@@ -1,5 +1,5 @@
 -- No connection is given to two transports under one generation.
-use Rattle.std.proofs.Common.{◌≡◌, inl, inr, ℕ, ◌+◌, ◌-◌, ◌^◌, ◌≤◌, ◌<◌, Bool, true, false, cond, List, [], ◌∷◌, map, refl, sym, ◌∙◌, ap, subst, arith, length}
+use Rattle.std.proofs.Common.{◌≡◌, inl, inr, ℕ, ◌+◌, ◌≤◌, ◌<◌, Bool, true, false, cond, List, [], ◌∷◌, map, refl, sym, ◌∙◌, ap, subst, arith, length}
 use Rattle.std.specs.Prelude.{Option, Some, None, if◌then◌else◌, not, ◌==◌, ◌&&◌, find, ⊤, bytes_eq}
 use Rattle.std.specs.List.{AllByRecursion}
 use Rattle.std.proofs.lemmas.Bool.Decides.{nat_tests}
@@ -212,18 +212,18 @@ not_above_stays event before a h conn generation gives =
 not_above : (past : List BookEvent) → AllByRecursion (IsNotAbove (decided the_range past)) (decided the_range past)
 not_above [] = tt
 not_above (event ∷ past) = (
-    λ conn generation gives. let given = given_by event (decided the_range past) conn generation (given_all the_range past) (low_all past) gives in (given.low, given.there),
-    all_weaker _ _ (not_above_stays event (decided the_range past)) (decided the_range past) (not_above past),
-  )
+  λ conn generation gives. let given = given_by event (decided the_range past) conn generation (given_all the_range past) (low_all past) gives in (given.low, given.there),
+  all_weaker _ _ (not_above_stays event (decided the_range past)) (decided the_range past) (not_above past),
+)
 
 generations_new : (past : List BookEvent) → AreGenerationsNew (decided the_range past)
 generations_new [] = tt
 generations_new (event ∷ past) = (
-    λ conn generation gives.
-        let given = given_by event (decided the_range past) conn generation (given_all the_range past) (low_all past) gives in
-        all_weaker _ _ (λ a h earlier was. given.above earlier (h conn earlier was)) (decided the_range past) (not_above past),
-    generations_new past,
-  )
+  λ conn generation gives.
+      let given = given_by event (decided the_range past) conn generation (given_all the_range past) (low_all past) gives in
+      all_weaker _ _ (λ a h earlier was. given.above earlier (h conn earlier was)) (decided the_range past) (not_above past),
+  generations_new past,
+)
 
 pub generations_are_given_once : GenerationsAreGivenOnce
 generations_are_given_once = of_books AreGenerationsNew generations_new

@@ -1,30 +1,22 @@
 -- What the book of a world gives it gives once.
-use Rattle.std.proofs.Common.{◌≡◌, ℕ, ◌+◌, ◌-◌, ◌^◌, ◌≤◌, ◌<◌, Bool, true, false, cond, List, [], ◌∷◌, map, refl, sym, ◌∙◌, ap, subst, arith}
-use Rattle.std.specs.Prelude.{Option, Some, None, if◌then◌else◌, not, ◌==◌, ◌&&◌, nat_lt, find, ⊤, bytes_eq}
+use Rattle.std.proofs.Common.{ℕ, ◌≤◌, List, [], ◌∷◌, refl, sym, ap, subst, arith}
+use Rattle.std.specs.Prelude.{Option, Some, None}
 use Rattle.std.specs.List.{AllByRecursion}
-use Rattle.std.proofs.lemmas.Bool.Decides.{nat_tests}
-use Rattle.rl_numbers.specs.declared.limits.TheConstants.{MAX_RESUMED_GENERATION}
 use Rattle.rl_events.specs.declared.book.BookEvent.{BookEvent}
-use Rattle.rl_events.specs.declared.book.BookEvent.TheVariants.{Open, Resume, Begin, End, Lost, Close, Expire}
-use Rattle.rl_events.specs.declared.book.BookReply.{BookReply}
-use Rattle.rl_events.specs.declared.book.BookReply.TheVariants.{Opened, Limit, Resumed, KeyUnknown, Done, Superseded}
+use Rattle.rl_events.specs.declared.book.BookEvent.TheVariants.{Expire}
 use Rattle.rl_events.specs.declared.calls.Call.{Call}
 use Rattle.rl_events.specs.declared.calls.Call.TheVariants as calls
 use Rattle.rl_events.specs.declared.calls.DirEvent.TheVariants.{Ask, Names}
 use Rattle.rl_types.specs.declared.messages.Body.{Body}
-use Rattle.rl_connbook.specs.declared.record.Record.{Record}
-use Rattle.rl_connbook.specs.declared.record.Standing.{Standing}
-use Rattle.rl_connbook.specs.declared.record.Standing.TheVariants.{Live, LostSince, Closed}
-use Rattle.rl_connbook.specs.Records.{Answered, concerns, is_of, story, record_of, generation_of, generation_after, standing_of, standing_after, raised, is_open}
-use Rattle.rl_connbook.specs.Book.{Book, book_of, decided, answered, numbers, last_number, told, is_full, opened_as, resumed, has_key, may_resume, at_record, record_at}
-use Rattle.rl_connbook.specs.Laws.{IsIn, Gives, IsWithin}
-use Rattle.rl_connbook.proofs.Each.{all_weaker, all_some}
+use Rattle.rl_connbook.specs.Records.{Answered}
+use Rattle.rl_connbook.specs.Book.{book_of, decided, answered, last_number}
+use Rattle.rl_connbook.specs.Laws.{Gives}
+use Rattle.rl_connbook.proofs.Each.{all_weaker}
 use Rattle.rl_connbook.proofs.History.{last_grows}
-use Rattle.rl_connbook.proofs.Numbers.{AreGiven, given_all, new_number, last_given}
-use Rattle.rl_connbook.proofs.BookLaws.{generation_stays}
+use Rattle.rl_connbook.proofs.Numbers.{new_number, last_given}
 use Rattle.rl_directory.specs.Directory.{number_of}
 use Rattle.rl_worldmodel.specs.World.{World, the_range, names}
-use Rattle.rl_worldmodel.specs.Calls.{called, with_name}
+use Rattle.rl_worldmodel.specs.Calls.{called}
 use Rattle.rl_worldmodel.specs.Actors.{Deed, Calls, Notices, TakesUp, Rests, Waits, done, next_deed, performs_if, next_page, next_poll}
 use Rattle.rl_worldmodel.specs.Services.{reaped, event_at, fed_at}
 use Rattle.rl_worldtold.specs.Runs.{HoldsOfRuns}
@@ -114,13 +106,13 @@ numbers_below (event ∷ past) =
 numbers_new : (past : List BookEvent) → AreNumbersNew (decided the_range past)
 numbers_new [] = tt
 numbers_new (event ∷ past) = (
-    λ conn gives.
-        let new = new_number conn event (book_of the_range (decided the_range past)) gives in (
-          (omega (arith, new.0), omega (arith, new.0, new.1)),
-          all_weaker _ _ (λ a below earlier given. omega (arith, new.0, below earlier given)) (decided the_range past) (numbers_below past),
-        ),
-    numbers_new past,
-  )
+  λ conn gives.
+      let new = new_number conn event (book_of the_range (decided the_range past)) gives in (
+        (omega (arith, new.0), omega (arith, new.0, new.1)),
+        all_weaker _ _ (λ a below earlier given. omega (arith, new.0, below earlier given)) (decided the_range past) (numbers_below past),
+      ),
+  numbers_new past,
+)
 
 pub numbers_are_given_once : NumbersAreGivenOnce
 numbers_are_given_once = of_books AreNumbersNew numbers_new

@@ -1,5 +1,5 @@
 -- A client of a world is what its inputs make of a new one.
-use Rattle.std.proofs.Common.{◌≡◌, ℕ, ◌+◌, Bool, true, false, cond, List, [], ◌∷◌, ◌++◌, map, refl, sym, ◌∙◌, ap, subst}
+use Rattle.std.proofs.Common.{◌≡◌, ℕ, Bool, true, false, List, [], ◌∷◌, ◌++◌, refl, sym, ◌∙◌, ap, subst}
 use Rattle.std.specs.Prelude.{Option, Some, None, slice_get, if◌then◌else◌, option_map, bytes_eq}
 use Rattle.std.proofs.lemmas.List.{append_assoc}
 use Rattle.rl_types.specs.declared.frames.Frame.{Frame}
@@ -12,19 +12,18 @@ use Rattle.rl_runs.specs.declared.commands.Command.{Command}
 use Rattle.rl_runs.specs.declared.commands.Command.TheVariants.{Connect, Die}
 use Rattle.rl_runs.specs.declared.commands.RecoveryKey.{RecoveryKey}
 use Rattle.rl_directory.specs.Directory.{number_of}
-use Rattle.rl_clientmodel.specs.States.{ClientState, Turn, new_state}
+use Rattle.rl_clientmodel.specs.States.{ClientState, new_state}
 use Rattle.rl_clientmodel.specs.Commands.{Refusal, refusal, acted, obeyed_unless}
-use Rattle.rl_clientmodel.specs.Hearing.{heard}
 use Rattle.rl_clientmodel.specs.Keys.{recovery_key, may_recover, recovered}
 use Rattle.rl_clientmodel.specs.Inputs.{Input, Told, Heard, Unlinked, Ticked, Recovers, step, run, after}
-use Rattle.rl_worldmodel.specs.World.{World, Transport, empty_world, on_transport, on_client, if_named, client_in, client_at, latest, names}
+use Rattle.rl_worldmodel.specs.World.{World, Transport, empty_world, on_transport, on_client, client_in, client_at, latest, names}
 use Rattle.rl_worldmodel.specs.Calls.{called}
-use Rattle.rl_worldmodel.specs.Clients.{declared_unless, cut_off, unlinks, cut_unless, cut_where, cut_at, cuts, sent_on, sends, cuts_if, turned, turned_by, takes_turn, opened_as, opened_unless, opened_by, opens, obeys, recovered_with, recovered_if, recovered_from, Arrival, Comes, Ends, Nothing, arrival, gives_frame, got_by, got_on}
+use Rattle.rl_worldmodel.specs.Clients.{declared_unless, cut_off, unlinks, cut_unless, cut_where, cut_at, cuts, sent_on, cuts_if, turned, turned_by, takes_turn, opened_unless, opened_by, opens, obeys, recovered_with, recovered_if, recovered_from, Arrival, Comes, Ends, Nothing, arrival, gives_frame, got_by, got_on}
 use Rattle.rl_worldmodel.specs.Actors.{Deed, Calls, Notices, TakesUp, Rests, Waits, done, next_deed, performs_if, next_page, next_poll}
 use Rattle.rl_worldmodel.specs.Services.{reaped, event_at, fed_at}
 use Rattle.rl_worldmodel.specs.Actions.{Action, Declares, Opens, Cuts, Obeys, Gets, LooksAtTime, Steps, Pages, Polls, Passes, Expires, Reaps, Ages, Names, Feeds, does, all_done}
 use Rattle.rl_worldmodel.specs.Actions as actions
-use Rattle.rl_worldtold.specs.Inputs.{to_owner, cut_inputs, at_inputs, cuts_inputs, before_drop, drop_inputs, turned_inputs, turn_inputs, opened_inputs, opens_inputs, obeys_inputs, with_inputs, recovers_if, recovers_inputs, got_inputs, gets_on, given_by, if_declared, inputs_by, inputs_from, inputs_of, ClientsAreOfTheirInputs}
+use Rattle.rl_worldtold.specs.Inputs.{to_owner, cut_inputs, at_inputs, cuts_inputs, before_drop, drop_inputs, turned_inputs, turn_inputs, opened_inputs, opens_inputs, obeys_inputs, with_inputs, recovers_if, recovers_inputs, got_inputs, gets_on, if_declared, inputs_by, inputs_from, inputs_of, ClientsAreOfTheirInputs}
 use Rattle.rl_worldtold.proofs.Shape.{same_bytes, client_changed, client_added, name_beside}
 
 -- INPUTS ONE AFTER ANOTHER
@@ -124,8 +123,8 @@ moves_unless_refused : (owner name : List ℕ) (o : Option Refusal) (state : Cli
 moves_unless_refused owner name (Some why) state world is at =
     stays_by (bytes_eq name owner) (Told Connect world.now ∷ []) (client_at owner world)
     (λ same s found.
-        let it = found_is owner name world state s at (same_bytes name owner same) found in
-        subst (λ (x : ClientState). x ≡ (acted Connect world.now x).state) it (refused_same (Some why) world.now state why is refl))
+    let it = found_is owner name world state s at (same_bytes name owner same) found in
+    subst (λ (x : ClientState). x ≡ (acted Connect world.now x).state) it (refused_same (Some why) world.now state why is refl))
 moves_unless_refused owner name None state world is at =
     moves_on owner name (λ _. (acted Connect world.now state).state) (Told Connect world.now ∷ []) world
     (λ same s found. ap (λ (x : ClientState). (acted Connect world.now x).state) (found_is owner name world state s at same found))

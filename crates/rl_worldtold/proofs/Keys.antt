@@ -12,7 +12,7 @@ use Rattle.rl_events.specs.declared.book.BookReply.{BookReply}
 use Rattle.rl_events.specs.declared.book.BookReply.TheVariants.{Opened, Limit, Resumed, KeyUnknown}
 use Rattle.rl_connbook.specs.declared.record.Record.{Record}
 use Rattle.rl_connbook.specs.Records.{Answered, is_of, story, record_of, key_of, key_after, is_open, raised}
-use Rattle.rl_connbook.specs.Book.{Book, book_of, decided, told, answered, numbers, numbers_after, last_number, key_text, has_key, resumed, may_resume, is_full, opened_as, is_over}
+use Rattle.rl_connbook.specs.Book.{book_of, decided, told, answered, numbers, numbers_after, last_number, key_text, has_key, resumed, may_resume, is_full, opened_as, is_over}
 use Rattle.rl_connbook.specs.Laws.{IsIn}
 use Rattle.rl_connbook.proofs.Each.{all_weaker, all_append, all_filter}
 use Rattle.rl_connbook.proofs.Numbers.{AreGiven, given_all}

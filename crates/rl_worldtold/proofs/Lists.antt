@@ -9,14 +9,14 @@ use Rattle.rl_types.specs.declared.states.ConnState.{ConnState}
 use Rattle.rl_types.specs.declared.states.ConnState.TheVariants as conn
 use Rattle.rl_runs.specs.declared.findings.Answer.{Answer}
 use Rattle.rl_runs.specs.declared.findings.Answer.TheVariants.{Ack, Nack}
-use Rattle.rl_connsm.specs.Rules.{awaits_connected, takes_acknowledgements, forgets_connection}
+use Rattle.rl_connsm.specs.Rules.{awaits_connected, takes_acknowledgements}
 use Rattle.rl_connsm.specs.declared.table.ConnEvent.TheVariants as events
 use Rattle.rl_ackq.specs.Queue.{settled_serials}
 use Rattle.rl_connbook.specs.Records.{Answered}
 use Rattle.rl_connbook.proofs.Each.{all_append}
 use Rattle.rl_actormodel.specs.declared.parts.Holder.{Holder}
 use Rattle.rl_actormodel.specs.State as actor
-use Rattle.rl_clientmodel.specs.States.{ClientState, state_after, conn_moved}
+use Rattle.rl_clientmodel.specs.States.{ClientState, conn_moved}
 use Rattle.rl_clientmodel.specs.Hearing.{id_of, settle, stands_with, hears, queue_with}
 use Rattle.rl_clientmodel.specs.Keys.{before_mark}
 use Rattle.rl_worldmodel.specs.World.{World, Transport, latest}
@@ -24,7 +24,6 @@ use Rattle.rl_worldtold.specs.Listed.{pair_of}
 use Rattle.rl_worldtold.specs.Tell.{IsOnce, IsListedOnce, IsUnheard, IsGiven, IsBelow, MayTell, IsOwn, IsTellable}
 use Rattle.rl_worldtold.specs.Truth.{OnHolder, IsOn, IsTrueFrame}
 use Rattle.rl_worldtold.proofs.Shape.{all_map}
-use Rattle.rl_worldtold.proofs.Calm.{IsOther}
 use Rattle.rl_worldtold.proofs.Moves.{Steps, steps_hears, rests_moved, connected_conn}
 use Rattle.rl_worldtold.proofs.Twice.{once_settled}
 use Rattle.rl_worldtold.proofs.Once.{once_connected, once_hears}

@@ -1,5 +1,5 @@
 -- What a client keeps of itself: its key, its id, and whether it lists anything yet.
-use Rattle.std.proofs.Common.{◌≡◌, ◌⊎◌, inl, inr, ℕ, ◌+◌, Bool, true, false, List, [], ◌∷◌, refl, sym, ◌∙◌, ap, subst, arith}
+use Rattle.std.proofs.Common.{◌≡◌, ◌⊎◌, inl, inr, ℕ, Bool, true, false, List, [], refl, sym, ◌∙◌, ap, arith}
 use Rattle.std.specs.Prelude.{Option, Some, None, if◌then◌else◌, ⊤}
 use Rattle.rl_ids.specs.declared.serials.ChannelSerial.{ChannelSerial}
 use Rattle.rl_types.specs.declared.frames.Frame.{Frame}
@@ -19,14 +19,13 @@ use Rattle.rl_clientmodel.specs.declared.steps.ChannelStep.{ChannelStep}
 use Rattle.rl_clientmodel.specs.declared.steps.ChannelStep.TheVariants.{DetachedGot, ErrorGot}
 use Rattle.rl_clientmodel.specs.Channels.{ClientChannel, channel_from}
 use Rattle.rl_clientmodel.specs.Entries.{entry_got, page_got, object_page_got}
-use Rattle.rl_clientmodel.specs.States.{ClientState, Turn, turn, quietly, changed, change_channel, stepped, forgotten, come_to, state_after, conn_moved, moving}
+use Rattle.rl_clientmodel.specs.States.{ClientState, quietly, changed, change_channel, stepped, forgotten, state_after, conn_moved, moving}
 use Rattle.rl_clientmodel.specs.Commands.{Refusal, refusal, acted, obeyed, obeyed_unless, attach_step, detach_step, channel_or_new, with_own, without_own}
 use Rattle.rl_clientmodel.specs.Hearing.{hears, attached_in, entered_again, error_got}
 use Rattle.rl_clientmodel.specs.Answers.{is_answer}
-use Rattle.rl_clientmodel.specs.Times.{unlinked, ticked, is_past_ttl, is_silent, waited, aged}
+use Rattle.rl_clientmodel.specs.Times.{unlinked, ticked, is_past_ttl, is_silent, waited}
 use Rattle.rl_connsm.proofs.Cases.{never_initialized_again}
 use Rattle.rl_worldtold.proofs.Calm.{IsOther}
-
 
 pub record Steps (before after : ClientState) : Type 0 where
   pub connecting : after.conn ≡ conn.Connecting → (before.conn ≡ conn.Connecting) × (after.id ≡ before.id) × (after.key ≡ before.key)

@@ -1,6 +1,6 @@
 -- Histories are orderly: each action keeps what they are orderly by.
-use Rattle.std.proofs.Common.{◌≡◌, ℕ, zero, suc, ◌+◌, ◌≤◌, Bool, true, false, List, [], ◌∷◌, ◌++◌, length, map, flat_map, refl, sym, ◌∙◌, ap, subst, arith}
-use Rattle.std.specs.Prelude.{Option, Some, None, slice_get, if◌then◌else◌, is_some, option_map, not, ⊤, ◌==◌}
+use Rattle.std.proofs.Common.{◌≡◌, ℕ, zero, suc, ◌+◌, ◌≤◌, Bool, true, false, List, [], ◌∷◌, ◌++◌, length, flat_map, refl, sym, ◌∙◌, ap, subst, arith}
+use Rattle.std.specs.Prelude.{Option, Some, None, slice_get, if◌then◌else◌, is_some, ⊤, ◌==◌}
 use Rattle.std.specs.List.{AllByRecursion}
 use Rattle.std.proofs.lemmas.Bool.Decides.{nat_tests}
 use Rattle.rl_numbers.specs.declared.limits.TheConstants.{MAX_PLACE}
@@ -27,7 +27,7 @@ use Rattle.rl_connbook.specs.Laws.{SomeOf}
 use Rattle.rl_connbook.proofs.Each.{all_weaker, all_append, all_some}
 use Rattle.rl_directory.specs.Directory.{number_of, is_full}
 use Rattle.rl_model.specs.History.{setting}
-use Rattle.rl_model.specs.Verdict.{Decision, Judgement, Stale, Again, Known, Fails, Adds, entry_if, entry_of, entry_of_gone, gone_entry, judged, members_on, entries, decisions, decided}
+use Rattle.rl_model.specs.Verdict.{Judgement, Adds, entry_if, entry_of, entry_of_gone, gone_entry, judged, members_on, entries, decisions, decided}
 use Rattle.rl_actormodel.specs.declared.parts.Publish.{Publish}
 use Rattle.rl_actormodel.specs.declared.parts.Holder.{Holder}
 use Rattle.rl_actormodel.specs.declared.parts.Wish.{Wish}
@@ -44,9 +44,8 @@ use Rattle.rl_actormodel.specs.Rests.{rested, does_rest}
 use Rattle.rl_worldmodel.specs.World.{World, Transport, empty_world, the_range, the_site, with_one_got, new_transport, on_transport, changed_at, names}
 use Rattle.rl_worldmodel.specs.Calls.{event_onto, named_by, with_name, reply_to, called, with_event}
 use Rattle.rl_worldmodel.specs.Clients.{cut_off, put_unless, takes_frames, gives_frame}
-use Rattle.rl_worldmodel.specs.Actors.{works, with_call, absorbs, performs, deed_by, deed_of, done, steps, takes_up, next_page, next_poll, performs_if}
-use Rattle.rl_worldmodel.specs.Actors as actors
-use Rattle.rl_worldmodel.specs.Services.{numbers_from, with_each, pairs, expires, reaped, reaps, event_at, ages, feed_conn, fed_at, feeds}
+use Rattle.rl_worldmodel.specs.Actors.{works, with_call, absorbs, performs, deed_by, deed_of, done, takes_up, next_page, next_poll, performs_if}
+use Rattle.rl_worldmodel.specs.Services.{numbers_from, with_each, pairs, expires, reaped, event_at, feed_conn, fed_at}
 use Rattle.rl_worldtold.specs.Orderly.{IsGoneOf, IsBefore, ArePutsBefore, HasPutsBefore, PutsComeBeforeGone, IsOrderlyEvent, IsOrderly, HasOrderlyHistories, HistoriesAreOrderly}
 use Rattle.rl_worldtold.specs.Orders.{flight, one, in_flight, IsSpent, IsGoneBy, IsOrderedPast, IsOrderedBy, IsOrdered}
 use Rattle.rl_worldtold.specs.Runs.{HoldsOfRuns}
@@ -150,7 +149,7 @@ performed : (conn k : ℕ) (call : Call) (world : World) (wish : Wish) (t : Tran
     → in_flight conn (changed_at k (absorbs call world) ts) + one conn (flight wish) ≤ in_flight conn ts + one conn (flight_after wish (reply_to call world))
 performed conn k call world wish t ts found is some same =
     subst (λ (w : Wish). in_flight conn (changed_at k (absorbs call world) ts) + one conn (flight w) ≤ in_flight conn ts + one conn (flight_after wish (reply_to call world))) is
-    (fl_after _ _ _ _ _ (flights_changed conn k (absorbs call world) t ts found) 
+    (fl_after _ _ _ _ _ (flights_changed conn k (absorbs call world) t ts found)
     (less_works (absorbed call (reply_to call world) world.now) (with_call call world t) conn _ (after_reply conn t.actor.ended call wish (reply_to call world) world.now t.actor some is same)))
 
 -- a call that is no event of the book, and leaves in flight what was

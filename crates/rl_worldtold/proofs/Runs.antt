@@ -1,5 +1,5 @@
 -- What each action keeps holds of all runs, by one case for each action.
-use Rattle.std.proofs.Common.{◌≡◌, ℕ, ◌+◌, List, [], ◌∷◌, refl}
+use Rattle.std.proofs.Common.{ℕ, List, [], ◌∷◌}
 use Rattle.rl_types.specs.declared.messages.Body.{Body}
 use Rattle.rl_worldmodel.specs.World.{World, empty_world}
 use Rattle.rl_worldmodel.specs.Calls.{with_name}

@@ -1,5 +1,5 @@
 -- What the service may tell a client that connects: each action of the service keeps it.
-use Rattle.std.proofs.Common.{◌≡◌, inl, inr, ℕ, ◌+◌, ◌^◌, ◌≤◌, ◌<◌, Bool, true, false, List, [], ◌∷◌, refl, sym, ◌∙◌, ap, subst, arith}
+use Rattle.std.proofs.Common.{◌≡◌, inl, inr, ℕ, ◌+◌, ◌^◌, ◌≤◌, ◌<◌, Bool, true, false, List, [], refl, sym, ◌∙◌, ap, subst, arith}
 use Rattle.std.specs.Prelude.{Option, Some, None, slice_get, is_some}
 use Rattle.std.specs.List.{AllByRecursion}
 use Rattle.rl_ids.specs.Forms.{conn_text}
@@ -8,8 +8,6 @@ use Rattle.rl_types.specs.declared.frames.Frame.{Frame}
 use Rattle.rl_runs.specs.declared.findings.Answer.{Answer}
 use Rattle.rl_events.specs.declared.book.BookEvent.{BookEvent}
 use Rattle.rl_events.specs.declared.book.BookEvent.TheVariants as events
-use Rattle.rl_events.specs.declared.book.BookReply.{BookReply}
-use Rattle.rl_events.specs.declared.book.BookReply.TheVariants as book
 use Rattle.rl_events.specs.declared.channel.ChannelEvent.TheVariants.{Put, Join, Read, MemberPage, ObjectPage}
 use Rattle.rl_events.specs.declared.calls.End.{End}
 use Rattle.rl_events.specs.declared.calls.End.TheVariants as ends
@@ -17,7 +15,6 @@ use Rattle.rl_events.specs.declared.calls.Call.{Call}
 use Rattle.rl_events.specs.declared.calls.Call.TheVariants as calls
 use Rattle.rl_events.specs.declared.calls.DirEvent.TheVariants.{Ask, Names}
 use Rattle.rl_events.specs.declared.calls.Reply.{Reply}
-use Rattle.rl_events.specs.declared.calls.Reply.TheVariants as replies
 use Rattle.rl_connbook.specs.Records.{Answered}
 use Rattle.rl_connbook.specs.Book.{book_of, told, answered, last_number, is_opened}
 use Rattle.rl_connbook.proofs.Each.{all_weaker}
@@ -39,7 +36,7 @@ use Rattle.rl_actormodel.specs.Reads.{absorbed, answered_at, replied, read_by}
 use Rattle.rl_actormodel.specs.Rests.{rested, does_rest}
 use Rattle.rl_worldmodel.specs.World.{World, Transport, the_range, with_one_got, on_transport, changed_at, latest, last_of, owned}
 use Rattle.rl_worldmodel.specs.Calls.{reply_to, called}
-use Rattle.rl_worldmodel.specs.Actors.{works, with_call, absorbs, performs, deed_by, deed_of, done, steps, takes_up, next_page, next_poll, performs_if, pages, polls}
+use Rattle.rl_worldmodel.specs.Actors.{works, with_call, absorbs, performs, deed_by, deed_of, done, steps, next_page, next_poll, performs_if, pages, polls}
 use Rattle.rl_worldtold.specs.Given.{IsDecided}
 use Rattle.rl_worldtold.specs.Tell.{asks, IsUnheard, IsBelow, IsGiven, MayTell, IsReady, IsOwn}
 use Rattle.rl_worldtold.proofs.Shape.{all_at, changed_one, changed_none, get_after, owned_changed, name_beside, works_actor, works_owner, works_cut}

@@ -1,6 +1,6 @@
 -- Outcomes that the service has in hand, keeps or sends are true: each action keeps it.
-use Rattle.std.proofs.Common.{◌≡◌, inl, inr, ℕ, suc, ◌+◌, ◌<◌, Bool, true, false, List, [], ◌∷◌, ◌++◌, length, map, refl, sym, ◌∙◌, ap, subst, arith, length-append}
-use Rattle.std.specs.Prelude.{Option, Some, None, slice_get, if◌then◌else◌, option_map, is_some, ⊤, bytes_eq}
+use Rattle.std.proofs.Common.{◌≡◌, inl, inr, ℕ, suc, ◌<◌, Bool, true, false, List, [], ◌∷◌, ◌++◌, length, refl, sym, ◌∙◌, ap, subst, arith, length-append}
+use Rattle.std.specs.Prelude.{Option, Some, None, slice_get, if◌then◌else◌, option_map, is_some, bytes_eq}
 use Rattle.std.specs.List.{AllByRecursion}
 use Rattle.rl_types.specs.declared.frames.Frame.{Frame}
 use Rattle.rl_types.specs.declared.messages.Body.{Body}
@@ -11,7 +11,6 @@ use Rattle.rl_events.specs.declared.book.BookReply.{BookReply}
 use Rattle.rl_events.specs.declared.book.BookReply.TheVariants as book
 use Rattle.rl_events.specs.declared.channel.ChannelEvent.{ChannelEvent}
 use Rattle.rl_events.specs.declared.channel.ChannelEvent.TheVariants.{Put, Gone, Join, Read, MemberPage, ObjectPage, Tick}
-use Rattle.rl_events.specs.declared.channel.ChannelReply.TheVariants as channel_replies
 use Rattle.rl_events.specs.declared.channel.Outcome.{Outcome}
 use Rattle.rl_events.specs.declared.channel.Outcome.TheVariants.{Taken, Refused}
 use Rattle.rl_events.specs.declared.channel.Verdict.{Verdict}
@@ -38,31 +37,30 @@ use Rattle.rl_model.specs.Reply as channel
 use Rattle.rl_clientmodel.specs.States.{ClientState}
 use Rattle.rl_actormodel.specs.declared.parts.Publish.{Publish}
 use Rattle.rl_actormodel.specs.declared.parts.Holder.{Holder}
-use Rattle.rl_actormodel.specs.declared.parts.Session.{Session}
 use Rattle.rl_actormodel.specs.declared.parts.Wish.{Wish}
 use Rattle.rl_actormodel.specs.declared.parts.Wish.TheVariants as wishes
 use Rattle.rl_actormodel.specs.State as actor
 use Rattle.rl_actormodel.specs.Ends.{over}
-use Rattle.rl_actormodel.specs.Takes.{A, took, take}
+use Rattle.rl_actormodel.specs.Takes.{A, took}
 use Rattle.rl_actormodel.specs.Wishes.{wanted, next_call}
-use Rattle.rl_actormodel.specs.Replies.{Back, resuming, Opens, opening, Knows, beginning, Numbering, Has, HasNone, numbering, verdict_in, outcome_of, reading, channel_reply}
+use Rattle.rl_actormodel.specs.Replies.{Back, resuming, Opens, opening, Knows, beginning, HasNone, numbering, verdict_in, outcome_of, reading, channel_reply}
 use Rattle.rl_actormodel.specs.Pagings.{page_by}
 use Rattle.rl_actormodel.specs.Reads as reads
 use Rattle.rl_actormodel.specs.Reads.{absorbed, answered_at, replied, read_by}
 use Rattle.rl_actormodel.specs.Rests.{rested, does_rest}
 use Rattle.rl_worldmodel.specs.World.{World, Transport, empty_world, the_epoch, the_range, the_site, with_one_got, new_transport, on_transport, changed_at, names, latest, last_of, owned, history, past_of}
 use Rattle.rl_worldmodel.specs.Calls.{event_onto, named_by, with_name, reply_to, called, with_event}
-use Rattle.rl_worldmodel.specs.Clients.{Comes, arrival, cut_off, put_unless, takes_frames, gives_frame}
+use Rattle.rl_worldmodel.specs.Clients.{cut_off, put_unless, takes_frames, gives_frame}
 use Rattle.rl_worldmodel.specs.Actors.{works, with_call, absorbs, performs, deed_by, deed_of, done, steps, takes_up, next_page, next_poll, performs_if, pages, polls}
 use Rattle.rl_worldmodel.specs.Services.{expires, reaped, reaps, event_at, ages, feed_conn, fed_at, feeds}
 use Rattle.rl_worldtold.specs.Given.{IsDecided}
 use Rattle.rl_worldtold.specs.Told.{IsTaken}
-use Rattle.rl_worldtold.specs.Truth.{Channels, names_of, Decides, IsTrueOf, IsTrueEnd, OnHolder, IsHeldBy, IsTrueWish, IsTrueFrame, IsTrueActor, IsTrueTransport, IsTrueService, IsLinked}
-use Rattle.rl_worldtold.proofs.Shape.{all_at, all_take, changed_all, changed_one, changed_none, some_changed, get_below, get_after, owned_changed, IsBeside, name_beside, works_actor, works_owner, works_cut}
+use Rattle.rl_worldtold.specs.Truth.{Channels, names_of, IsTrueOf, IsTrueEnd, OnHolder, IsHeldBy, IsTrueWish, IsTrueFrame, IsTrueActor, IsTrueTransport, IsTrueService, IsLinked}
+use Rattle.rl_worldtold.proofs.Shape.{all_at, all_take, changed_all, changed_one, changed_none, some_changed, get_below, get_after, owned_changed, name_beside, works_actor, works_owner, works_cut}
 use Rattle.rl_worldtold.proofs.Keys.{resume_key, open_key}
 use Rattle.rl_worldtold.proofs.Quiet.{IsQuiet}
 use Rattle.rl_worldtold.proofs.Sessions.{IsOfSession, pages_are, polls_are}
-use Rattle.rl_worldtold.proofs.Truths.{Grows, grows_takes, grows_name, grows_same, length_names, end_stays, transport_stays, actor_stays, IsSameOrNew, Becomes, works_true, nothing_true, Fits, IsNumbered, replied_true, over_true, took_true, rested_true, read_true, page_true, session_true}
+use Rattle.rl_worldtold.proofs.Truths.{Grows, grows_takes, grows_name, grows_same, length_names, end_stays, transport_stays, IsSameOrNew, Becomes, works_true, nothing_true, Fits, IsNumbered, replied_true, over_true, took_true, rested_true, read_true, page_true, session_true}
 
 -- THE WORLD AFTER AN ACTION OF THE SERVICE
 

@@ -1,12 +1,12 @@
 -- What a session calls: reads and pages alone.
-use Rattle.std.proofs.Common.{◌≡◌, ℕ, Bool, true, false, List, refl, subst}
+use Rattle.std.proofs.Common.{◌≡◌, ℕ, Bool, true, false, List, subst}
 use Rattle.std.specs.Prelude.{Option, Some, None, not, if◌then◌else◌, option_map, ⊤}
 use Rattle.rl_numbers.specs.declared.limits.TheConstants.{PAGE_MEMBERS, PAGE_OBJECTS, READ_ENTRIES}
 use Rattle.rl_events.specs.declared.channel.ChannelEvent.{ChannelEvent}
 use Rattle.rl_events.specs.declared.channel.ChannelEvent.TheVariants.{Read, MemberPage, ObjectPage}
 use Rattle.rl_events.specs.declared.calls.Call.{Call}
 use Rattle.rl_events.specs.declared.calls.Call.TheVariants as calls
-use Rattle.rl_pages.specs.State.{Sequences, next_event}
+use Rattle.rl_pages.specs.State.{Sequences}
 use Rattle.rl_names.specs.Names.{at}
 use Rattle.rl_actormodel.specs.declared.parts.Session.{Session}
 use Rattle.rl_actormodel.specs.State as actor

@@ -1,21 +1,17 @@
 -- What is wanted of every world: lists that are changed at one place, clients by name, transports by owner, and what each
 -- step leaves as it was.
 use Rattle.std.proofs.Common.{◌≡◌, ◌⊎◌, inl, inr, ℕ, zero, suc, ◌<◌, Bool, true, false, List, [], ◌∷◌, ◌++◌, length, map, refl, sym, ◌∙◌, ap, subst, arith, cond, ◌+◌, ◌≤◌}
-use Rattle.std.specs.Prelude.{Some, None, slice_get, Option, option_map, if◌then◌else◌, bytes_eq, take, drop}
+use Rattle.std.specs.Prelude.{Some, None, slice_get, Option, option_map, if◌then◌else◌, bytes_eq, take}
 use Rattle.std.specs.List.{AllByRecursion, filter}
 use Rattle.std.specs.Cmp.Lexicographic.{bytes_decides}
 use Rattle.rl_types.specs.declared.frames.Frame.{Frame}
-use Rattle.rl_events.specs.declared.channel.ChannelEvent.{ChannelEvent}
-use Rattle.rl_events.specs.declared.calls.Call.{Call}
-use Rattle.rl_events.specs.declared.calls.Call.TheVariants as calls
-use Rattle.rl_events.specs.declared.calls.DirEvent.TheVariants.{Ask, Names}
 use Rattle.rl_connbook.specs.Laws.{SomeOf}
 use Rattle.rl_connbook.proofs.Each.{all_weaker}
 use Rattle.rl_directory.specs.Directory.{number_of}
 use Rattle.rl_clientmodel.specs.States.{ClientState}
 use Rattle.rl_actormodel.specs.State as actor
 use Rattle.rl_worldmodel.specs.World.{World, Transport, changed_at, if_named, client_in, names, owned, latest, last_of, on_transport}
-use Rattle.rl_worldmodel.specs.Calls.{called, named_by, with_name}
+use Rattle.rl_worldmodel.specs.Calls.{named_by, with_name}
 use Rattle.rl_worldmodel.specs.Actors.{put_out_unless, works}
 
 -- ALL AND SOME

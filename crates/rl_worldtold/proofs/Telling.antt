@@ -10,29 +10,27 @@ use Rattle.rl_runs.specs.declared.commands.Command.{Command}
 use Rattle.rl_runs.specs.declared.commands.Command.TheVariants.{Connect, Die}
 use Rattle.rl_runs.specs.declared.commands.RecoveryKey.{RecoveryKey}
 use Rattle.rl_events.specs.declared.book.BookEvent.TheVariants as book
-use Rattle.rl_events.specs.declared.channel.ChannelEvent.{ChannelEvent}
 use Rattle.rl_events.specs.declared.channel.ChannelEvent.TheVariants.{Tick}
 use Rattle.rl_connsm.specs.Rules as rules
 use Rattle.rl_connsm.specs.declared.table.ConnEvent.TheVariants as events
-use Rattle.rl_ackq.specs.Queue.{started_at}
 use Rattle.rl_connbook.specs.Records.{Answered}
 use Rattle.rl_connbook.specs.Book.{answered, last_number}
 use Rattle.rl_connbook.proofs.Each.{all_weaker, all_append}
 use Rattle.rl_connbook.proofs.History.{last_grows}
 use Rattle.rl_directory.specs.Directory.{number_of}
 use Rattle.rl_actormodel.specs.State as actor
-use Rattle.rl_clientmodel.specs.States.{ClientState, Turn, new_state, conn_moved}
+use Rattle.rl_clientmodel.specs.States.{ClientState, Turn, new_state}
 use Rattle.rl_clientmodel.specs.Commands.{Refusal, refusal, acted, obeyed, obeyed_unless, hello_of}
 use Rattle.rl_clientmodel.specs.Hearing.{heard}
 use Rattle.rl_clientmodel.specs.Times.{ticked}
 use Rattle.rl_clientmodel.specs.Keys.{recovery_key, may_recover, is_empty, recovered, with_key, before_mark}
-use Rattle.rl_worldmodel.specs.World.{World, Transport, empty_world, the_range, new_transport, on_transport, on_client, client_in, client_at, if_named, latest, last_of, owned, names}
+use Rattle.rl_worldmodel.specs.World.{World, Transport, the_range, new_transport, on_transport, on_client, client_in, client_at, if_named, latest, last_of, owned, names}
 use Rattle.rl_worldmodel.specs.Clients.{declared_unless, cut_off, unlinks, cut_unless, cut_where, cut_at, cuts, put_unless, takes_frames, sent_on, sends, cuts_if, turned, turned_by, takes_turn, opened_as, opened_unless, opened_by, opens, obeys, recovered_with, recovered_if, recovered_from, Arrival, Comes, Ends, Nothing, arrival, gives_frame, got_by, got_on}
 use Rattle.rl_worldmodel.specs.Services.{reaped, event_at, fed_at}
 use Rattle.rl_worldmodel.specs.Actions.{Action, Declares, Opens, Cuts, Recovers, Obeys, Gets, LooksAtTime, Steps, Pages, Polls, Passes, Expires, Reaps, Ages, Names, Feeds, does}
 use Rattle.rl_worldtold.specs.Runs.{HoldsOfRuns}
 use Rattle.rl_worldtold.specs.Listed.{AllListOnce, NoneIsListedTwice}
-use Rattle.rl_worldtold.specs.Tell.{IsListedOnce, asks, IsBelow, IsGiven, MayTell, IsReady, IsOwn, IsTellable, IsTelling}
+use Rattle.rl_worldtold.specs.Tell.{asks, IsBelow, IsGiven, MayTell, IsReady, IsOwn, IsTellable, IsTelling}
 use Rattle.rl_worldtold.specs.Truth.{IsTrueFrame, IsTrueTransport, IsTrueWorld}
 use Rattle.rl_worldtold.proofs.Shape.{all_at, changed_all, get_append, get_changed, same_bytes, self_bytes, other_by, owned_append, owned_changed, latest_there, name_beside}
 use Rattle.rl_worldtold.proofs.Runs.{runs_hold, runs_so}

@@ -49,7 +49,7 @@ use Rattle.rl_actormodel.specs.Publishes.{settled, put_wish, begun_by, put_at, p
 use Rattle.rl_actormodel.specs.Pagings.{paged, page_by, ends_here, ended_here}
 use Rattle.rl_actormodel.specs.Reads.{entry_head, body_frame, entry_frame, moved_on, read_by, on_session, replied}
 use Rattle.rl_clientmodel.specs.Keys.{before_mark}
-use Rattle.rl_worldmodel.specs.World.{Transport, the_site, changed_at}
+use Rattle.rl_worldmodel.specs.World.{Transport, changed_at}
 use Rattle.rl_worldmodel.specs.Calls.{event_onto}
 use Rattle.rl_worldmodel.specs.Actors.{works}
 use Rattle.rl_worldtold.specs.Told.{IsRefused}

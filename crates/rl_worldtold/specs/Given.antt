@@ -7,7 +7,7 @@ use Rattle.rl_events.specs.declared.book.BookReply.TheVariants.{Opened, Resumed}
 use Rattle.rl_connbook.specs.Records.{Answered}
 use Rattle.rl_connbook.specs.Book.{decided}
 use Rattle.rl_connbook.specs.Laws.{Gives, IsWithin}
-use Rattle.rl_worldmodel.specs.World.{World, the_range}
+use Rattle.rl_worldmodel.specs.World.{the_range}
 use Rattle.rl_worldtold.specs.Runs.{HoldsOfRuns}
 
 -- THE BOOK

@@ -7,7 +7,7 @@ use Rattle.rl_clientmodel.specs.States.{ClientState, Turn}
 use Rattle.rl_clientmodel.specs.Keys.{recovery_key, may_recover}
 use Rattle.rl_clientmodel.specs.Inputs.{Input, Told, Heard, Unlinked, Ticked, Recovers, step, after}
 use Rattle.rl_worldmodel.specs.World.{World, Transport, empty_world, on_transport, on_client, client_at, latest}
-use Rattle.rl_worldmodel.specs.Clients.{sends, cuts, obeys, Arrival, Comes, Ends, Nothing, arrival, gives_frame}
+use Rattle.rl_worldmodel.specs.Clients.{sends, obeys, Arrival, Comes, Ends, Nothing, arrival, gives_frame}
 use Rattle.rl_worldmodel.specs.Actions.{Action, Declares, Opens, Cuts, Obeys, Gets, LooksAtTime, does, all_done}
 use Rattle.rl_worldmodel.specs.Actions as actions
 

@@ -1,5 +1,5 @@
 -- No client lists an acknowledgement of one connection and serial twice (RTN7).
-use Rattle.std.specs.Prelude.{◌≡◌, ◌≢◌, ℕ, ⊤, List, [], ◌∷◌, map}
+use Rattle.std.specs.Prelude.{◌≢◌, ℕ, ⊤, List, [], ◌∷◌, map}
 use Rattle.std.specs.List.{AllByRecursion}
 use Rattle.rl_runs.specs.declared.findings.Answer.{Answer}
 use Rattle.rl_runs.specs.declared.findings.Answer.TheVariants.{Ack, Nack}

@@ -1,6 +1,6 @@
 -- Why histories are orderly, as what every action keeps: a connection with a call in flight stands, and a channel is told
 -- only of connections that do not stand any more.
-use Rattle.std.specs.Prelude.{◌≡◌, ℕ, ◌+◌, ◌-◌, ◌^◌, ◌≤◌, ◌<◌, ⊤, ◌==◌, if◌then◌else◌, List, [], ◌∷◌, Option, Some, None}
+use Rattle.std.specs.Prelude.{ℕ, ◌+◌, ◌-◌, ◌^◌, ◌≤◌, ◌<◌, ⊤, ◌==◌, if◌then◌else◌, List, [], ◌∷◌, Option, Some, None}
 use Rattle.std.specs.List.{AllByRecursion}
 use Rattle.rl_events.specs.declared.channel.ChannelEvent.{ChannelEvent}
 use Rattle.rl_events.specs.declared.channel.ChannelEvent.TheVariants.{Gone}

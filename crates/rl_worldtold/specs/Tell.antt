@@ -1,6 +1,6 @@
 -- Why no client lists a connection and serial twice, as what every action keeps: with each CONNECTED a client has its own
 -- connection again, or one of which it has listed nothing.
-use Rattle.std.specs.Prelude.{◌≡◌, ℕ, ◌≤◌, ◌<◌, ⊤, false, List, [], map, Option, Some, None, ◌⊎◌, slice_get}
+use Rattle.std.specs.Prelude.{◌≡◌, ℕ, ◌≤◌, ◌<◌, false, List, [], map, Option, Some, None, ◌⊎◌, slice_get}
 use Rattle.std.specs.List.{AllByRecursion}
 use Rattle.rl_ids.specs.Forms.{conn_text}
 use Rattle.rl_types.specs.declared.states.ConnState.TheVariants as conn
