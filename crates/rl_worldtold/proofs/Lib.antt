@@ -5,6 +5,7 @@ pub mod Books
 pub mod Flights
 pub mod Sessions
 pub mod Orderly
+pub mod Deciding
 pub mod Given
 pub mod Generations
 pub mod Keys

@@ -379,7 +379,7 @@ add_conn : (j : Judgement) (made entry : Entry) → entry_if j made ≡ Some ent
 add_conn Adds made entry is = cc
 add_conn j made entry is = absurd (cc)
 
-gone_serial : (head now conn : ℕ) (gone : List PresenceItem) (entry : Entry) → entry_of_gone head now conn gone ≡ Some entry → entry.serial ≡ None
+pub gone_serial : (head now conn : ℕ) (gone : List PresenceItem) (entry : Entry) → entry_of_gone head now conn gone ≡ Some entry → entry.serial ≡ None
 gone_serial head now conn [] entry is = absurd (cc)
 gone_serial head now conn (member ∷ gone) entry is = by_head (head == MAX_PLACE) is
   where

@@ -6,5 +6,6 @@ pub mod Inputs
 pub mod Accounts
 pub mod Told
 pub mod Truth
+pub mod Decided
 pub mod Listed
 pub mod Tell

@@ -4,6 +4,7 @@ ghost use Rattle.rl_worldtold.specs.Given.{BooksAreDecided, NumbersAreGivenOnce,
 ghost use Rattle.rl_worldtold.specs.Inputs.{ClientsAreOfTheirInputs};
 ghost use Rattle.rl_worldtold.specs.Accounts.{AllAccountedFor};
 ghost use Rattle.rl_worldtold.specs.Told.{AnswersAreTold};
+ghost use Rattle.rl_worldtold.specs.Decided.{ChannelsDecideOnce};
 ghost use Rattle.rl_worldtold.specs.Listed.{NoneIsListedTwice};
 
 /// In every channel's history no Put of a connection comes after a Gone of it.
@@ -54,6 +55,13 @@ pub fn all_accounted_for()
 #[tactic(auto, using(crate::proofs::Answers::answers_are_told))]
 pub fn answers_are_told()
     ensures { AnswersAreTold }
+{}
+
+/// However often a connection's serial was put on a channel, it has one outcome there; and where that is a refusal, the log
+/// has no entry of it.
+#[tactic(auto, using(crate::proofs::Deciding::channels_decide_once))]
+pub fn channels_decide_once()
+    ensures { ChannelsDecideOnce }
 {}
 
 /// No client lists an acknowledgement of one connection and serial twice.
