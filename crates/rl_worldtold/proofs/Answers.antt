@@ -33,7 +33,7 @@ use Rattle.rl_clientmodel.specs.Times.{ticked}
 use Rattle.rl_clientmodel.specs.Keys.{recovery_key, may_recover, recovered}
 use Rattle.rl_worldmodel.specs.World.{World, Transport, empty_world, the_site, new_transport, on_transport, on_client, client_in, client_at, if_named, latest, last_of}
 use Rattle.rl_worldmodel.specs.Clients.{declared_unless, cut_off, unlinks, cut_unless, cut_where, cut_at, cuts, put_unless, takes_frames, sent_on, sends, cuts_if, turned, turned_by, takes_turn, opened_as, opened_unless, opened_by, opens, obeys, recovered_with, recovered_if, recovered_from, Arrival, Comes, Ends, Nothing, arrival, arrival_by, gives_frame, got_by, got_on}
-use Rattle.rl_worldmodel.specs.Actions.{Action, Declares, Opens, Cuts, Recovers, Obeys, Gets, LooksAtTime, Steps, Pages, Polls, Passes, Expires, Reaps, Ages, Names, Feeds, does}
+use Rattle.rl_worldmodel.specs.Actions.{Action, Declares, Opens, Cuts, Recovers, Obeys, Gets, LooksAtTime, Steps, Pages, Polls, Passes, Expires, Reaps, Ages, Asks, Feeds, does}
 use Rattle.rl_worldtold.specs.Runs.{HoldsOfRuns}
 use Rattle.rl_worldtold.specs.Told.{IsPutOf, IsTaken, IsRefused, IsTold, AllTold, AnswersAreTold}
 use Rattle.rl_worldtold.specs.Truth.{Channels, IsPutBy, Decides, OnHolder, IsTrueFrame, IsTrueTransport, IsTrueService, IsOn, IsTrueAnswer, IsLinked, IsTrueClient, IsTrueWorld}
@@ -309,6 +309,7 @@ told_true name command world h = turn_true name (acted command world.now) world 
 
 obeys_true : (name : List ℕ) (command : Command) (world : World) → IsTrueWorld world → IsTrueWorld (obeys name command world)
 obeys_true name Connect world h = opens_true name world h
+obeys_true name Die world h = cuts_true name (takes_turn name (acted Die world.now) world) (told_true name Die world h)
 obeys_true name command world h = told_true name command world h
 
 -- RECOVERY
@@ -316,8 +317,8 @@ obeys_true name command world h = told_true name command world h
 with_true : (name other : List ℕ) (o : Option RecoveryKey) (world : World) → IsTrueWorld world → IsTrueWorld (recovered_with name other o world)
 with_true name other None world h = h
 with_true name other (Some key) world h =
-    let dead : World = cuts other (obeys other Die world) in
-    on_client_true dead name (recovered key) (λ c same is. client_calm dead c.0 c.1 (recovered key c.1) (calm_recovered key c.1) (record { answers = is.answers; linked = is.linked })) (cuts_true other (obeys other Die world) (obeys_true other Die world h))
+    let dead : World = obeys other Die world in
+    on_client_true dead name (recovered key) (λ c same is. client_calm dead c.0 c.1 (recovered key c.1) (calm_recovered key c.1) (record { answers = is.answers; linked = is.linked })) (obeys_true other Die world h)
 
 recovered_if_true : (b : Bool) (name other : List ℕ) (lost : ClientState) (world : World) → IsTrueWorld world → IsTrueWorld (recovered_if b name other lost world)
 recovered_if_true true name other lost world h = with_true name other (recovery_key lost) world h
@@ -367,7 +368,7 @@ keeps_true (Passes span) world h = record { service = quiet_service.of_time worl
 keeps_true Expires world h = goes_true world (does Expires world) (expires_true world h.service) h
 keeps_true Reaps world h = goes_true world (does Reaps world) (reaps_true world h.service) h
 keeps_true (Ages name) world h = goes_true world (does (Ages name) world) (ages_true world name h.service) h
-keeps_true (Names name) world h = goes_true world (does (Names name) world) (names_true world name h.service) h
+keeps_true (Asks name) world h = goes_true world (does (Asks name) world) (names_true world name h.service) h
 keeps_true (Feeds name body) world h = goes_true world (does (Feeds name body) world) (feeds_true world name body h.service) h
 
 pub begins_true : IsTrueWorld empty_world

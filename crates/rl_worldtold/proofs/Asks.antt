@@ -24,6 +24,7 @@ use Rattle.rl_actormodel.specs.declared.parts.Wish.TheVariants as wishes
 use Rattle.rl_actormodel.specs.State as actor
 use Rattle.rl_actormodel.specs.State.{State, puts}
 use Rattle.rl_actormodel.specs.Ends.{last_wish, lost_wish, ended_by, over_at}
+use Rattle.rl_actormodel.specs.Takes as takes
 use Rattle.rl_actormodel.specs.Takes.{attach_wish, begin_wish, close_wish, publish, take}
 use Rattle.rl_actormodel.specs.Rests.{rested, is_idle, is_quiet}
 use Rattle.rl_actormodel.specs.Replies.{Standing, Passed, Gone, Holds, Unsaid, standing, Beginning, Overtaken, Missing, Knows, Above, Below, Goes, Unbegun, beginning, Numbering, Has, HasNone, Unnumbered, numbering, Joining, joining_in, verdict_in, Reading, Came, Behind, Unread}
@@ -158,8 +159,13 @@ take_steady frames.Close now s = none_asks s _ refl (close_asks s.holder)
 take_steady frames.Heartbeat now s = same_asks s _ refl refl
 take_steady frame now s = itself s
 
-pub took_steady : (frame : Frame) (now : ℕ) (s : State) → IsSteady s (take frame now (record s { last_in = now }))
-took_steady frame now s = let h = take_steady frame now (record s { last_in = now }) in record { holder = h.holder; asked = h.asked }
+any_steady : (came : takes.Came) (now : ℕ) (s : State) → IsSteady s (takes.take_any came now s)
+any_steady (takes.A frame) now s = take_steady frame now s
+any_steady takes.Unknown now s = itself s
+any_steady (takes.Bad bytes) now s = ended_steady (ends.BadFrame bytes) s
+
+pub took_steady : (came : takes.Came) (now : ℕ) (s : State) → IsSteady s (takes.took came now s)
+took_steady came now s = let h = any_steady came now (record s { last_in = now }) in record { holder = h.holder; asked = h.asked }
 
 steady_if : (b : Bool) (s x y : State) → IsSteady s x → IsSteady s y → IsSteady s (if b then x else y)
 steady_if true s x y p q = p

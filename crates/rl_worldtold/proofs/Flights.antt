@@ -27,6 +27,7 @@ use Rattle.rl_actormodel.specs.declared.parts.Wish.TheVariants as wishes
 use Rattle.rl_names.specs.Names.{at, with_entry}
 use Rattle.rl_actormodel.specs.State.{State, puts, is_free}
 use Rattle.rl_actormodel.specs.Ends.{last_wish, lost_wish, over_at}
+use Rattle.rl_actormodel.specs.Takes as takes
 use Rattle.rl_actormodel.specs.Takes.{attach_wish, begin_wish, close_wish, publish, take}
 use Rattle.rl_actormodel.specs.Rests.{rested, is_idle, is_quiet}
 use Rattle.rl_actormodel.specs.Replies.{Standing, Passed, Gone, Holds, Unsaid, standing, Beginning, Overtaken, Missing, Knows, Above, Below, Goes, Unbegun, beginning, Opening, Opens, Limited, Unopened, opening, Resuming, Back, NotKnown, Unresumed, resuming, Numbering, Has, HasNone, Unnumbered, numbering, Joining, joining_in, verdict_in, Reading, Came, Behind, Unread}
@@ -248,6 +249,11 @@ less_take conn (frames.Presence head items) now s = less_publish conn head head.
 less_take conn (frames.Object head ops) now s = less_publish conn head head.msg _ s
 less_take conn frames.Close now s = wish_close conn s.holder _
 less_take conn frame now s = omega arith
+
+pub less_came : (conn : ℕ) (came : takes.Came) (now : ℕ) (s : State) → one conn (flight (takes.take_any came now s).wish) ≤ one conn (flight s.wish)
+less_came conn (takes.A frame) now s = less_take conn frame now s
+less_came conn takes.Unknown now s = omega arith
+less_came conn (takes.Bad bytes) now s = less_over conn (ends.BadFrame bytes) None s
 
 less_if : (conn : ℕ) (b : Bool) (x y s : State) → one conn (flight x.wish) ≤ one conn (flight s.wish) → one conn (flight y.wish) ≤ one conn (flight s.wish) → one conn (flight (if b then x else y).wish) ≤ one conn (flight s.wish)
 less_if conn true x y s p q = p

@@ -21,7 +21,7 @@ use Rattle.rl_worldmodel.specs.Calls.{called}
 use Rattle.rl_worldmodel.specs.Clients.{declared_unless, cut_off, unlinks, cut_unless, cut_where, cut_at, cuts, sent_on, cuts_if, turned, turned_by, takes_turn, opened_unless, opened_by, opens, obeys, recovered_with, recovered_if, recovered_from, Arrival, Comes, Ends, Nothing, arrival, gives_frame, got_by, got_on}
 use Rattle.rl_worldmodel.specs.Actors.{Deed, Calls, Notices, TakesUp, Rests, Waits, done, next_deed, performs_if, next_page, next_poll}
 use Rattle.rl_worldmodel.specs.Services.{reaped, event_at, fed_at}
-use Rattle.rl_worldmodel.specs.Actions.{Action, Declares, Opens, Cuts, Obeys, Gets, LooksAtTime, Steps, Pages, Polls, Passes, Expires, Reaps, Ages, Names, Feeds, does, all_done}
+use Rattle.rl_worldmodel.specs.Actions.{Action, Declares, Opens, Cuts, Obeys, Gets, LooksAtTime, Steps, Pages, Polls, Passes, Expires, Reaps, Ages, Asks, Feeds, does, all_done}
 use Rattle.rl_worldmodel.specs.Actions as actions
 use Rattle.rl_worldtold.specs.Inputs.{to_owner, cut_inputs, at_inputs, cuts_inputs, before_drop, drop_inputs, turned_inputs, turn_inputs, opened_inputs, opens_inputs, obeys_inputs, with_inputs, recovers_if, recovers_inputs, got_inputs, gets_on, if_declared, inputs_by, inputs_from, inputs_of, ClientsAreOfTheirInputs}
 use Rattle.rl_worldtold.proofs.Shape.{same_bytes, client_changed, client_added, name_beside}
@@ -138,6 +138,9 @@ moves_opens owner name world = moves_opened owner name (client_at name world) wo
 
 moves_obeys : (owner name : List ℕ) (command : Command) (world : World) → Moves owner world (obeys name command world) (obeys_inputs owner name command world)
 moves_obeys owner name Connect world = moves_opens owner name world
+moves_obeys owner name Die world =
+    moves_then owner world (takes_turn name (acted Die world.now) world) (obeys name Die world) (turn_inputs owner name (Told Die world.now) world) (cuts_inputs owner name (takes_turn name (acted Die world.now) world))
+    (moves_turn owner name (Told Die world.now) world) (moves_cuts owner name (takes_turn name (acted Die world.now) world))
 moves_obeys owner name command world = moves_turn owner name (Told command world.now) world
 
 -- RECOVERY
@@ -145,11 +148,10 @@ moves_obeys owner name command world = moves_turn owner name (Told command world
 moves_with : (owner name other : List ℕ) (o : Option RecoveryKey) (world : World) → Moves owner world (recovered_with name other o world) (with_inputs owner name other o world)
 moves_with owner name other None world = run_none (client_at owner world)
 moves_with owner name other (Some key) world =
-    moves_then owner world (cuts other (obeys other Die world)) (recovered_with name other (Some key) world)
-    (cuts_inputs owner other (obeys other Die world) ++ turn_inputs owner other (Told Die world.now) world) (to_owner owner name (Recovers key ∷ []))
-    (moves_then owner world (obeys other Die world) (cuts other (obeys other Die world)) (turn_inputs owner other (Told Die world.now) world) (cuts_inputs owner other (obeys other Die world))
-    (moves_turn owner other (Told Die world.now) world) (moves_cuts owner other (obeys other Die world)))
-    (moves_on owner name (recovered key) (Recovers key ∷ []) (cuts other (obeys other Die world)) (λ same s found. refl))
+    moves_then owner world (obeys other Die world) (recovered_with name other (Some key) world)
+    (obeys_inputs owner other Die world) (to_owner owner name (Recovers key ∷ []))
+    (moves_obeys owner other Die world)
+    (moves_on owner name (recovered key) (Recovers key ∷ []) (obeys other Die world) (λ same s found. refl))
 
 moves_recovered : (b : Bool) (owner name other : List ℕ) (lost : ClientState) (world : World) → Moves owner world (recovered_if b name other lost world) (recovers_if b owner name other lost world)
 moves_recovered true owner name other lost world = moves_with owner name other (recovery_key lost) world
@@ -249,7 +251,7 @@ step_is owner before (Passes span) world is = left_is owner before world (does (
 step_is owner before Expires world is = left_is owner before world (does Expires world) refl is
 step_is owner before Reaps world is = left_is owner before world (does Reaps world) (reaped_clients world.queue world) is
 step_is owner before (Ages name) world is = left_is owner before world (does (Ages name) world) (event_clients (number_of name (names world)) _ world) is
-step_is owner before (Names name) world is = left_is owner before world (does (Names name) world) (name_beside name world).clients is
+step_is owner before (Asks name) world is = left_is owner before world (does (Asks name) world) (name_beside name world).clients is
 step_is owner before (Feeds name body) world is = left_is owner before world (does (Feeds name body) world) (fed_clients (number_of name (names world)) body world) is
 
 all_is : (owner : List ℕ) (before : List Input) (list : List Action) (world : World) → Is owner before (client_at owner world) → Is owner (inputs_from owner list world ++ before) (client_at owner (all_done list world))

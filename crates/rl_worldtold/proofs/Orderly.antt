@@ -34,7 +34,7 @@ use Rattle.rl_actormodel.specs.declared.parts.Wish.{Wish}
 use Rattle.rl_actormodel.specs.declared.parts.Wish.TheVariants as wishes
 use Rattle.rl_actormodel.specs.State as actor
 use Rattle.rl_actormodel.specs.Ends.{over}
-use Rattle.rl_actormodel.specs.Takes.{A, took}
+use Rattle.rl_actormodel.specs.Takes.{took}
 use Rattle.rl_actormodel.specs.Wishes.{wanted, next_call}
 use Rattle.rl_actormodel.specs.Replies.{reading, channel_reply}
 use Rattle.rl_actormodel.specs.Reads as reads
@@ -44,7 +44,7 @@ use Rattle.rl_actormodel.specs.Rests.{rested, does_rest}
 use Rattle.rl_worldmodel.specs.World.{World, Transport, empty_world, the_range, the_site, with_one_got, new_transport, on_transport, changed_at, names}
 use Rattle.rl_worldmodel.specs.Calls.{event_onto, named_by, with_name, reply_to, called, with_event}
 use Rattle.rl_worldmodel.specs.Clients.{cut_off, put_unless, takes_frames, gives_frame}
-use Rattle.rl_worldmodel.specs.Actors.{works, with_call, absorbs, performs, deed_by, deed_of, done, takes_up, next_page, next_poll, performs_if}
+use Rattle.rl_worldmodel.specs.Actors.{arrives, works, with_call, absorbs, performs, deed_by, deed_of, done, takes_up, next_page, next_poll, performs_if}
 use Rattle.rl_worldmodel.specs.Services.{numbers_from, with_each, pairs, expires, reaped, event_at, feed_conn, fed_at}
 use Rattle.rl_worldtold.specs.Orderly.{IsGoneOf, IsBefore, ArePutsBefore, HasPutsBefore, PutsComeBeforeGone, IsOrderlyEvent, IsOrderly, HasOrderlyHistories, HistoriesAreOrderly}
 use Rattle.rl_worldtold.specs.Orders.{flight, one, in_flight, IsSpent, IsGoneBy, IsOrderedPast, IsOrderedBy, IsOrdered}
@@ -54,7 +54,7 @@ use Rattle.rl_worldtold.proofs.Quiet.{IsQuiet}
 use Rattle.rl_worldtold.proofs.Sessions.{IsOfSession, pages_are, polls_are}
 use Rattle.rl_worldtold.proofs.Runs.{runs_hold, runs_so, IsServed, each_keeps}
 use Rattle.rl_worldtold.proofs.Books.{spent_stays, expired_spent, holding_on, holding_less, May}
-use Rattle.rl_worldtold.proofs.Flights.{flights_changed, flights_less, flights_append, flight_after, IsWanted, replied_flight, IsBegin, told_begin, IsEnding, told_ending, ends_flight, less_over, less_take, less_rested, less_read, less_page, less_session}
+use Rattle.rl_worldtold.proofs.Flights.{flights_changed, flights_less, flights_append, flight_after, IsWanted, replied_flight, IsBegin, told_begin, IsEnding, told_ending, ends_flight, less_over, less_came, less_rested, less_read, less_page, less_session}
 
 -- FEWER PUTS IN FLIGHT
 
@@ -258,7 +258,7 @@ steps_by : (world : World) (k : ℕ) (t : Transport) (o : Option Call) (ended cu
 steps_by world k t (Some call) ended cut next rests found is h = performs_by world k t t.actor.wish call found refl is h
 steps_by world k t None true cut next rests found is h = h
 steps_by world k t None false true next rests found is h = ordered_on world k (works (over ends.LinkEnded)) (λ u conn. less_works (over ends.LinkEnded) u conn _ (less_over conn ends.LinkEnded u.actor.ended u.actor)) h
-steps_by world k t None false false (Some frame) rests found is h = ordered_on world k (takes_up frame world.now) (λ u conn. less_works (took (A frame) world.now) (record u { to_service = with_one_got u.to_service }) conn _ (less_take conn frame world.now (record u.actor { last_in = world.now }))) h
+steps_by world k t None false false (Some frame) rests found is h = ordered_on world k (takes_up frame world.now) (λ u conn. less_works (took (arrives frame) world.now) (record u { to_service = with_one_got u.to_service }) conn _ (less_came conn (arrives frame) world.now (record u.actor { last_in = world.now }))) h
 steps_by world k t None false false None true found is h = ordered_on world k (works (rested world.now)) (λ u conn. less_works (rested world.now) u conn _ (less_rested conn world.now u.actor)) h
 steps_by world k t None false false None false found is h = h
 

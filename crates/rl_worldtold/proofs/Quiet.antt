@@ -83,12 +83,13 @@ module _ (P : World → Type 0) (quiet : IsQuiet P) where
 
   pub obeys_keeps : (name : List ℕ) (command : Command) (world : World) → P world → P (obeys name command world)
   obeys_keeps name Connect world h = opens_keeps name world h
+  obeys_keeps name Die world h = cuts_keeps name (takes_turn name (acted Die world.now) world) (turn_keeps name (acted Die world.now) world h)
   obeys_keeps name command world h = turn_keeps name (acted command world.now) world h
 
   with_keeps : (name other : List ℕ) (o : Option RecoveryKey) (world : World) → P world → P (recovered_with name other o world)
   with_keeps name other None world h = h
   with_keeps name other (Some key) world h =
-      quiet.of_client (cuts other (obeys other Die world)) name (recovered key) (cuts_keeps other (obeys other Die world) (obeys_keeps other Die world h))
+      quiet.of_client (obeys other Die world) name (recovered key) (obeys_keeps other Die world h)
 
   recovered_if_keeps : (b : Bool) (name other : List ℕ) (lost : ClientState) (world : World) → P world → P (recovered_if b name other lost world)
   recovered_if_keeps true name other lost world h = with_keeps name other (recovery_key lost) world h

@@ -5,7 +5,7 @@ use Rattle.rl_worldmodel.specs.World.{World, empty_world}
 use Rattle.rl_worldmodel.specs.Calls.{with_name}
 use Rattle.rl_worldmodel.specs.Actors.{steps, pages, polls}
 use Rattle.rl_worldmodel.specs.Services.{expires, reaps, ages, feeds}
-use Rattle.rl_worldmodel.specs.Actions.{Action, Declares, Opens, Cuts, Recovers, Obeys, Gets, LooksAtTime, Steps, Pages, Polls, Passes, Expires, Reaps, Ages, Names, Feeds, does, all_done}
+use Rattle.rl_worldmodel.specs.Actions.{Action, Declares, Opens, Cuts, Recovers, Obeys, Gets, LooksAtTime, Steps, Pages, Polls, Passes, Expires, Reaps, Ages, Asks, Feeds, does, all_done}
 use Rattle.rl_worldmodel.proofs.Acting.{final_keeps}
 use Rattle.rl_worldtold.specs.Runs.{HoldsOfRuns}
 use Rattle.rl_worldtold.proofs.Quiet.{IsQuiet, declares_keeps, opens_keeps, cuts_keeps, recovers_keeps, obeys_keeps, gets_keeps, looks_keeps}
@@ -50,5 +50,5 @@ each_keeps P quiet served (Passes span) world h = quiet.of_time world span h
 each_keeps P quiet served Expires world h = served.expiring world h
 each_keeps P quiet served Reaps world h = served.reaping world h
 each_keeps P quiet served (Ages channel) world h = served.ageing world channel h
-each_keeps P quiet served (Names channel) world h = served.naming world channel h
+each_keeps P quiet served (Asks channel) world h = served.naming world channel h
 each_keeps P quiet served (Feeds channel body) world h = served.feeding world channel body h

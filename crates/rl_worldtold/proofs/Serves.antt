@@ -26,7 +26,7 @@ use Rattle.rl_actormodel.specs.declared.parts.Wish.{Wish}
 use Rattle.rl_actormodel.specs.declared.parts.Wish.TheVariants as wishes
 use Rattle.rl_actormodel.specs.State as actor
 use Rattle.rl_actormodel.specs.Ends.{over}
-use Rattle.rl_actormodel.specs.Takes.{A, took}
+use Rattle.rl_actormodel.specs.Takes.{took}
 use Rattle.rl_actormodel.specs.Wishes.{wanted, next_call}
 use Rattle.rl_actormodel.specs.Replies.{Resuming, Back, NotKnown, Unresumed, resuming, Opening, Opens, Limited, Unopened, opening, reading, channel_reply}
 use Rattle.rl_actormodel.specs.Connects.{resumed_by, opened_by}
@@ -36,7 +36,7 @@ use Rattle.rl_actormodel.specs.Reads.{absorbed, answered_at, replied, read_by}
 use Rattle.rl_actormodel.specs.Rests.{rested, does_rest}
 use Rattle.rl_worldmodel.specs.World.{World, Transport, the_range, with_one_got, on_transport, changed_at, latest, last_of, owned}
 use Rattle.rl_worldmodel.specs.Calls.{reply_to, called}
-use Rattle.rl_worldmodel.specs.Actors.{works, with_call, absorbs, performs, deed_by, deed_of, done, steps, next_page, next_poll, performs_if, pages, polls}
+use Rattle.rl_worldmodel.specs.Actors.{arrives, works, with_call, absorbs, performs, deed_by, deed_of, done, steps, next_page, next_poll, performs_if, pages, polls}
 use Rattle.rl_worldtold.specs.Given.{IsDecided}
 use Rattle.rl_worldtold.specs.Tell.{asks, IsUnheard, IsBelow, IsGiven, MayTell, IsReady, IsOwn}
 use Rattle.rl_worldtold.proofs.Shape.{all_at, changed_one, changed_none, get_after, owned_changed, name_beside, works_actor, works_owner, works_cut}
@@ -243,7 +243,7 @@ steps_by world k t (Some call) ended cut next rests found is decided_ all = perf
 steps_by world k t None true cut next rests found is decided_ all = serve_same world world (omega arith) refl refl all
 steps_by world k t None false true next rests found is decided_ all = serve_works world k (over ends.LinkEnded) (λ u. u) (λ u. refl) (λ u. refl) (λ u. refl) (λ s. over_steady ends.LinkEnded s.ended s) all
 steps_by world k t None false false (Some frame) rests found is decided_ all =
-    serve_works world k (took (A frame) world.now) (λ u. record u { to_service = with_one_got u.to_service }) (λ u. refl) (λ u. refl) (λ u. refl) (λ s. took_steady frame world.now s) all
+    serve_works world k (took (arrives frame) world.now) (λ u. record u { to_service = with_one_got u.to_service }) (λ u. refl) (λ u. refl) (λ u. refl) (λ s. took_steady (arrives frame) world.now s) all
 steps_by world k t None false false None true found is decided_ all = serve_works world k (rested world.now) (λ u. u) (λ u. refl) (λ u. refl) (λ u. refl) (λ s. rested_steady world.now s) all
 steps_by world k t None false false None false found is decided_ all = serve_same world world (omega arith) refl refl all
 

@@ -41,7 +41,7 @@ use Rattle.rl_actormodel.specs.declared.parts.Wish.{Wish}
 use Rattle.rl_actormodel.specs.declared.parts.Wish.TheVariants as wishes
 use Rattle.rl_actormodel.specs.State as actor
 use Rattle.rl_actormodel.specs.Ends.{over}
-use Rattle.rl_actormodel.specs.Takes.{A, took}
+use Rattle.rl_actormodel.specs.Takes.{took}
 use Rattle.rl_actormodel.specs.Wishes.{wanted, next_call}
 use Rattle.rl_actormodel.specs.Replies.{Back, resuming, Opens, opening, Knows, beginning, HasNone, numbering, verdict_in, outcome_of, reading, channel_reply}
 use Rattle.rl_actormodel.specs.Pagings.{page_by}
@@ -51,7 +51,7 @@ use Rattle.rl_actormodel.specs.Rests.{rested, does_rest}
 use Rattle.rl_worldmodel.specs.World.{World, Transport, empty_world, the_epoch, the_range, the_site, with_one_got, new_transport, on_transport, changed_at, names, latest, last_of, owned, history, past_of}
 use Rattle.rl_worldmodel.specs.Calls.{event_onto, named_by, with_name, reply_to, called, with_event}
 use Rattle.rl_worldmodel.specs.Clients.{cut_off, put_unless, takes_frames, gives_frame}
-use Rattle.rl_worldmodel.specs.Actors.{works, with_call, absorbs, performs, deed_by, deed_of, done, steps, takes_up, next_page, next_poll, performs_if, pages, polls}
+use Rattle.rl_worldmodel.specs.Actors.{arrives, works, with_call, absorbs, performs, deed_by, deed_of, done, steps, takes_up, next_page, next_poll, performs_if, pages, polls}
 use Rattle.rl_worldmodel.specs.Services.{expires, reaped, reaps, event_at, ages, feed_conn, fed_at, feeds}
 use Rattle.rl_worldtold.specs.Given.{IsDecided}
 use Rattle.rl_worldtold.specs.Told.{IsTaken}
@@ -332,11 +332,11 @@ performs_by world k t (wishes.Finish p holder outcome) call found is wants h =
 taken_up : (world : World) (k : ℕ) (t : Transport) (frame : Frame) → slice_get world.transports k ≡ Some t → IsTrueService world → Goes world (on_transport k (takes_up frame world.now) world)
 taken_up world k t frame found h =
     let here = all_at (IsTrueTransport world.channels) k t world.transports found h.each in
-    let b = took_true world.channels frame world.now t.actor here.of_actor in
+    let b = took_true world.channels (arrives frame) world.now t.actor here.of_actor in
     service_on world world k t (takes_up frame world.now) found (grows_same world.channels) refl h.book h.ends
-    (λ u. works_owner (took (A frame) world.now) (record u { to_service = with_one_got u.to_service })) (λ u uncut. works_uncut (took (A frame) world.now) (record u { to_service = with_one_got u.to_service }) uncut)
-    (works_true world.channels (took (A frame) world.now) (record t { to_service = with_one_got t.to_service }) (record { good = b.good; keeps = b.keeps }) here.on_way)
-    (works_holds (took (A frame) world.now) (record t { to_service = with_one_got t.to_service }) t.actor.holder b.keeps) h refl
+    (λ u. works_owner (took (arrives frame) world.now) (record u { to_service = with_one_got u.to_service })) (λ u uncut. works_uncut (took (arrives frame) world.now) (record u { to_service = with_one_got u.to_service }) uncut)
+    (works_true world.channels (took (arrives frame) world.now) (record t { to_service = with_one_got t.to_service }) (record { good = b.good; keeps = b.keeps }) here.on_way)
+    (works_holds (took (arrives frame) world.now) (record t { to_service = with_one_got t.to_service }) t.actor.holder b.keeps) h refl
 
 steps_by : (world : World) (k : ℕ) (t : Transport) (o : Option Call) (ended cut : Bool) (next : Option Frame) (rests : Bool) → slice_get world.transports k ≡ Some t → next_call world.now t.actor ≡ o → IsTrueService world → Goes world (done k (deed_by o ended cut next rests) world)
 steps_by world k t (Some call) ended cut next rests found is h = performs_by world k t t.actor.wish call found refl is h

@@ -27,7 +27,7 @@ use Rattle.rl_clientmodel.specs.Keys.{recovery_key, may_recover, is_empty, recov
 use Rattle.rl_worldmodel.specs.World.{World, Transport, the_range, new_transport, on_transport, on_client, client_in, client_at, if_named, latest, last_of, owned, names}
 use Rattle.rl_worldmodel.specs.Clients.{declared_unless, cut_off, unlinks, cut_unless, cut_where, cut_at, cuts, put_unless, takes_frames, sent_on, sends, cuts_if, turned, turned_by, takes_turn, opened_as, opened_unless, opened_by, opens, obeys, recovered_with, recovered_if, recovered_from, Arrival, Comes, Ends, Nothing, arrival, gives_frame, got_by, got_on}
 use Rattle.rl_worldmodel.specs.Services.{reaped, event_at, fed_at}
-use Rattle.rl_worldmodel.specs.Actions.{Action, Declares, Opens, Cuts, Recovers, Obeys, Gets, LooksAtTime, Steps, Pages, Polls, Passes, Expires, Reaps, Ages, Names, Feeds, does}
+use Rattle.rl_worldmodel.specs.Actions.{Action, Declares, Opens, Cuts, Recovers, Obeys, Gets, LooksAtTime, Steps, Pages, Polls, Passes, Expires, Reaps, Ages, Asks, Feeds, does}
 use Rattle.rl_worldtold.specs.Runs.{HoldsOfRuns}
 use Rattle.rl_worldtold.specs.Listed.{AllListOnce, NoneIsListedTwice}
 use Rattle.rl_worldtold.specs.Tell.{asks, IsBelow, IsGiven, MayTell, IsReady, IsOwn, IsTellable, IsTelling}
@@ -246,6 +246,7 @@ opens_tells name world h = opened_tells name (client_at name world) world refl h
 
 obeys_tells : (name : List ℕ) (command : Command) (world : World) → IsTelling world → IsTelling (obeys name command world)
 obeys_tells name Connect world h = opens_tells name world h
+obeys_tells name Die world h = cuts_tells name (takes_turn name (acted Die world.now) world) (told_tells name Die world tt h)
 obeys_tells name command world h = told_tells name command world tt h
 
 -- RECOVERY
@@ -276,8 +277,8 @@ recovered_by world name key s false is h = h
 with_tells : (name other : List ℕ) (o : Option RecoveryKey) (world : World) → IsTelling world → IsTelling (recovered_with name other o world)
 with_tells name other None world h = h
 with_tells name other (Some key) world h =
-    on_client_tells (cuts other (obeys other Die world)) name (recovered key) (λ c same is. recovered_by (cuts other (obeys other Die world)) c.0 key c.1 (may_recover c.1) refl is)
-    (cuts_tells other (obeys other Die world) (obeys_tells other Die world h))
+    on_client_tells (obeys other Die world) name (recovered key) (λ c same is. recovered_by (obeys other Die world) c.0 key c.1 (may_recover c.1) refl is)
+    (obeys_tells other Die world h)
 
 recovered_if_tells : (b : Bool) (name other : List ℕ) (lost : ClientState) (world : World) → IsTelling world → IsTelling (recovered_if b name other lost world)
 recovered_if_tells true name other lost world h = with_tells name other (recovery_key lost) world h
@@ -340,10 +341,10 @@ keeps_tells (Passes span) world true_ h = serves_tell world (does (Passes span) 
 keeps_tells Expires world true_ h = serves_tell world (does Expires world) (serve_same world (does Expires world) (last_grows the_range (answered the_range (book.Expire world.now) world.book) world.book) refl refl h.holders) h
 keeps_tells Reaps world true_ h = reaped_tells world world.queue h
 keeps_tells (Ages name) world true_ h = aged_tells world (number_of name (names world)) h
-keeps_tells (Names name) world true_ h =
+keeps_tells (Asks name) world true_ h =
     let beside = name_beside name world in
     let same = ap (last_number the_range) beside.book in
-    serves_tell world (does (Names name) world) (serve_same world (does (Names name) world) (omega (arith, same)) beside.transports beside.clients h.holders) h
+    serves_tell world (does (Asks name) world) (serve_same world (does (Asks name) world) (omega (arith, same)) beside.transports beside.clients h.holders) h
 keeps_tells (Feeds name body) world true_ h = fed_tells world (number_of name (names world)) body h
 
 abbrev Both : World → Type 0

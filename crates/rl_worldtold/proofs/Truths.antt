@@ -40,6 +40,7 @@ use Rattle.rl_actormodel.specs.declared.parts.Wish.TheVariants as wishes
 use Rattle.rl_actormodel.specs.State as actor
 use Rattle.rl_actormodel.specs.State.{put, puts, wishing}
 use Rattle.rl_actormodel.specs.Ends.{farewell, last_wish, lost_wish, ended_by, over_at}
+use Rattle.rl_actormodel.specs.Takes as takes
 use Rattle.rl_actormodel.specs.Takes.{attach_wish, begin_wish, close_wish, publish, take}
 use Rattle.rl_actormodel.specs.Rests.{rested, is_idle, is_quiet}
 use Rattle.rl_actormodel.specs.Replies.{Standing, Passed, Gone, Holds, Unsaid, standing, Beginning, Overtaken, Missing, Knows, Above, Below, Goes, Unbegun, beginning, Opening, Opens, Limited, Unopened, opening, Resuming, Back, NotKnown, Unresumed, resuming, Numbering, Has, HasNone, Unnumbered, numbering, Joining, joining_in, outcome_of, verdict_in, Reading, Came, Behind, Unread}
@@ -383,9 +384,14 @@ module _ (channels : Channels) where
   take_true frames.Heartbeat now s h = stays s _ refl (put_true frames.Heartbeat now s tt h)
   take_true frame now s h = stays s s refl h
 
-  pub took_true : (frame : Frame) (now : ℕ) (s : actor.State) → IsTrueActor channels s → Becomes channels s (take frame now (record s { last_in = now }))
-  took_true frame now s h =
-      let b = take_true frame now (record s { last_in = now }) (record { held = h.held; wish_true = h.wish_true; known = h.known; put_out = h.put_out }) in
+  any_true : (came : takes.Came) (now : ℕ) (s : actor.State) → IsTrueActor channels s → Becomes channels s (takes.take_any came now s)
+  any_true (takes.A frame) now s h = take_true frame now s h
+  any_true takes.Unknown now s h = stays s s refl h
+  any_true (takes.Bad bytes) now s h = stays s _ refl (ended_true (ends.BadFrame bytes) s h)
+
+  pub took_true : (came : takes.Came) (now : ℕ) (s : actor.State) → IsTrueActor channels s → Becomes channels s (takes.took came now s)
+  took_true came now s h =
+      let b = any_true came now (record s { last_in = now }) (record { held = h.held; wish_true = h.wish_true; known = h.known; put_out = h.put_out }) in
       record { good = b.good; keeps = b.keeps }
 
   -- REST

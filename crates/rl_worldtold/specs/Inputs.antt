@@ -7,7 +7,7 @@ use Rattle.rl_clientmodel.specs.States.{ClientState, Turn}
 use Rattle.rl_clientmodel.specs.Keys.{recovery_key, may_recover}
 use Rattle.rl_clientmodel.specs.Inputs.{Input, Told, Heard, Unlinked, Ticked, Recovers, step, after}
 use Rattle.rl_worldmodel.specs.World.{World, Transport, empty_world, on_transport, on_client, client_at, latest}
-use Rattle.rl_worldmodel.specs.Clients.{sends, obeys, Arrival, Comes, Ends, Nothing, arrival, gives_frame}
+use Rattle.rl_worldmodel.specs.Clients.{sends, obeys, Arrival, Comes, Ends, Nothing, arrival, gives_frame, takes_turn}
 use Rattle.rl_worldmodel.specs.Actions.{Action, Declares, Opens, Cuts, Obeys, Gets, LooksAtTime, does, all_done}
 use Rattle.rl_worldmodel.specs.Actions as actions
 
@@ -57,6 +57,8 @@ opens_inputs owner name world = opened_inputs owner name world.now (client_at na
 
 abbrev pub obeys_inputs : List ℕ → List ℕ → Command → World → List Input
 obeys_inputs owner name Connect world = opens_inputs owner name world
+obeys_inputs owner name Die world =
+    cuts_inputs owner name (takes_turn name (acted Die world.now) world) ++ turn_inputs owner name (Told Die world.now) world
 obeys_inputs owner name command world = turn_inputs owner name (Told command world.now) world
 
 -- RECOVERY: the second client dies, its link is cut, and then the first one goes on
@@ -64,7 +66,7 @@ obeys_inputs owner name command world = turn_inputs owner name (Told command wor
 abbrev pub with_inputs : List ℕ → List ℕ → List ℕ → Option RecoveryKey → World → List Input
 with_inputs owner name other None world = []
 with_inputs owner name other (Some key) world =
-    to_owner owner name (Recovers key ∷ []) ++ (cuts_inputs owner other (obeys other Die world) ++ turn_inputs owner other (Told Die world.now) world)
+    to_owner owner name (Recovers key ∷ []) ++ obeys_inputs owner other Die world
 
 abbrev pub recovers_if : Bool → List ℕ → List ℕ → List ℕ → ClientState → World → List Input
 recovers_if false owner name other lost world = []
