@@ -3,11 +3,12 @@ use Rattle.std.specs.Prelude.{◌≡◌, ℕ, Bool, true, false, if◌then◌els
 use Rattle.rl_runs.specs.declared.commands.Command.{Command}
 use Rattle.rl_runs.specs.declared.commands.Command.TheVariants.{Connect, Die}
 use Rattle.rl_runs.specs.declared.commands.RecoveryKey.{RecoveryKey}
+use Rattle.rl_clientmodel.specs.Commands.{acted}
 use Rattle.rl_clientmodel.specs.States.{ClientState, Turn}
 use Rattle.rl_clientmodel.specs.Keys.{recovery_key, may_recover}
 use Rattle.rl_clientmodel.specs.Inputs.{Input, Told, Heard, Unlinked, Ticked, Recovers, step, after}
 use Rattle.rl_worldmodel.specs.World.{World, Transport, empty_world, on_transport, on_client, client_at, latest}
-use Rattle.rl_worldmodel.specs.Clients.{sends, obeys, Arrival, Comes, Ends, Nothing, arrival, gives_frame, takes_turn}
+use Rattle.rl_worldmodel.specs.Clients.{sends, Arrival, Comes, Ends, Nothing, arrival, gives_frame, takes_turn}
 use Rattle.rl_worldmodel.specs.Actions.{Action, Declares, Opens, Cuts, Obeys, Gets, LooksAtTime, does, all_done}
 use Rattle.rl_worldmodel.specs.Actions as actions
 
