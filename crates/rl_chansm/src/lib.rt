@@ -6,8 +6,6 @@ pub mod laws;
 mod owed;
 mod rules;
 mod table;
-#[cfg(test)]
-mod tests;
 
 pub use connection::{after_connection, event_of};
 pub use owed::{

@@ -7,8 +7,6 @@ pub mod laws;
 mod range;
 mod record;
 mod shelf;
-#[cfg(test)]
-mod tests;
 
 pub use book::ConnBook;
 pub use range::NumberRange;

@@ -4,8 +4,6 @@
 pub mod laws;
 mod rules;
 mod table;
-#[cfg(test)]
-mod tests;
 
 pub use rules::{
     attach_refused, awaits_connected, awaits_ttl, brings_key, closes, connect_refused,

@@ -4,8 +4,6 @@
 
 mod counter;
 mod sites;
-#[cfg(test)]
-mod tests;
 
 pub use counter::{Counter, added, sum_after};
 pub use rl_objmodel::Applied;

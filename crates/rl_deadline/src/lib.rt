@@ -3,7 +3,5 @@
 
 mod deadlines;
 mod order;
-#[cfg(test)]
-mod tests;
 
 pub use deadlines::Deadlines;

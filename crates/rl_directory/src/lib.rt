@@ -3,7 +3,5 @@
 
 mod directory;
 pub mod laws;
-#[cfg(test)]
-mod tests;
 
 pub use directory::Directory;

@@ -5,8 +5,6 @@ mod cells;
 mod collecting;
 mod held;
 mod livemap;
-#[cfg(test)]
-mod tests;
 mod weights;
 
 pub use held::HeldCell;

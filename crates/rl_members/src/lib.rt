@@ -14,7 +14,5 @@ mod members;
 mod page;
 mod search;
 mod taking;
-#[cfg(test)]
-mod tests;
 
 pub use members::Members;

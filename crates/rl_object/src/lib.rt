@@ -7,8 +7,6 @@ mod maps;
 mod object;
 mod parts;
 mod stood;
-#[cfg(test)]
-mod tests;
 
 pub use kinds::{kind_of, suits, target_of};
 pub use object::Object;

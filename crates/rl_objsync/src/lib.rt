@@ -10,7 +10,5 @@
 pub mod laws;
 mod objsync;
 mod sync;
-#[cfg(test)]
-mod tests;
 
 pub use objsync::ObjSync;

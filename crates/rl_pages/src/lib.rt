@@ -10,7 +10,5 @@ mod frames;
 pub mod laws;
 mod pages;
 mod progress;
-#[cfg(test)]
-mod tests;
 
 pub use pages::Pages;

@@ -12,8 +12,6 @@ mod live;
 mod pages;
 mod pool;
 mod telling;
-#[cfg(test)]
-mod tests;
 
 pub use pool::Pool;
 pub use rl_objmodel::Applied;

@@ -18,8 +18,6 @@ mod ready;
 mod search;
 mod syncs;
 mod taking;
-#[cfg(test)]
-mod tests;
 
 pub use events::PresenceEvent;
 pub use newness::newer;

@@ -11,5 +11,3 @@ mod writing;
 pub use reading::read_recovery_key;
 pub use writing::write_recovery_key;
 
-#[cfg(test)]
-mod tests;

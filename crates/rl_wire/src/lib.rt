@@ -20,5 +20,3 @@ mod writing;
 pub use reading::read_frame;
 pub use writing::write_frame;
 
-#[cfg(test)]
-mod tests;

@@ -12,5 +12,3 @@ pub use messages_in::read_message_items;
 pub use presence_in::read_presence_items;
 pub use values::{message_values, presence_values, sync_values};
 
-#[cfg(test)]
-mod tests;

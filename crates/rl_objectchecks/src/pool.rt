@@ -1,10 +1,10 @@
 // What no clause says: that calls succeed where memory lasts.
-use crate::{Applied, Pool};
 use rl_ids::{
     Copied, List, MapValue, Moment, NoMemory, ObjectId, OpSerial, Place, Text, read_object_id,
     read_site,
 };
 use rl_numbers::codes::UNKNOWN_OBJECT;
+use rl_pool::{Applied, Pool};
 use rl_types::{ObjectOp, Op};
 use std::alloc::Global;
 

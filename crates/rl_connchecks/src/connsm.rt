@@ -1,5 +1,5 @@
 // The table of a connection, pair by pair, and what its states say.
-use crate::{
+use rl_connsm::{
     ConnEvent, attach_refused, awaits_connected, awaits_ttl, brings_key, closes, conn_step,
     connect_refused, drops_link, enqueue_refused, forgets_connection, from_suspended_after,
     gives_recovery_key, is_connected, leaves_connected, loses_link, may_connect, may_recover,

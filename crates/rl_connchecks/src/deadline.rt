@@ -1,5 +1,5 @@
 // What no clause says: that calls succeed where memory lasts.
-use crate::Deadlines;
+use rl_deadline::Deadlines;
 use rl_ids::Moment;
 use std::test::Fail;
 

@@ -1,7 +1,7 @@
 // Syncs, page by page.
-use crate::Pages;
 use rl_events::{ChannelEvent, ChannelReply};
 use rl_ids::{Copied, List, Moment, NoMemory, ObjectId, Place, Text};
+use rl_pages::Pages;
 use rl_types::{Frame, ObjectBody, ObjectState, PresenceAction, PresenceItem};
 use std::alloc::Global;
 

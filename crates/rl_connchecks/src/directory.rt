@@ -1,5 +1,5 @@
 // What no clause says: that calls succeed where memory lasts.
-use crate::Directory;
+use rl_directory::Directory;
 use rl_events::{ChannelNo, DirEvent, DirReply};
 use rl_ids::{NoMemory, Text};
 use rl_turnlock::Machine;

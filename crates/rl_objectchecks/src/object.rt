@@ -1,5 +1,4 @@
 // What no clause says: that calls succeed where memory lasts.
-use crate::{Applied, Object, kind_of, suits, target_of};
 use rl_ids::{
     Code64, Copied, List, MapValue, Moment, NoMemory, ObjectId, ObjectKind, OpSerial, Place, Text,
     read_site,
@@ -7,6 +6,7 @@ use rl_ids::{
 use rl_numbers::limits::{
     CELL_WEIGHT, MAX_COUNTER_SUM, OBJECT_WEIGHT, TOMBSTONE_GRACE, VALUE_WEIGHT,
 };
+use rl_object::{Applied, Object, kind_of, suits, target_of};
 use rl_types::{ObjectBody, ObjectState, Op};
 use std::alloc::Global;
 

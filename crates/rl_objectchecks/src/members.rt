@@ -1,6 +1,6 @@
 // The members, call by call: with memory enough each call answers.
-use crate::Members;
 use rl_ids::{List, MemberKey, Moment, NoMemory, Text};
+use rl_members::Members;
 use rl_numbers::limits::MAX_MEMBERS;
 use rl_types::{PresenceAction, PresenceItem};
 use std::alloc::Global;

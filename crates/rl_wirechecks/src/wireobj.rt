@@ -1,7 +1,7 @@
-use super::*;
 use rl_ids::{Blob, List, MapValue, NoMemory, ObjectId, Text};
 use rl_jsonfields::{Field, bad, missing};
 use rl_types::{ObjectBody, ObjectOp, ObjectState, Op, WireFault};
+use rl_wireobj::*;
 use serde_json::Value;
 use std::alloc::Global;
 use std::test::*;

@@ -1,5 +1,5 @@
 // What no clause says: that calls succeed where memory lasts.
-use crate::ConnBook;
+use rl_connbook::ConnBook;
 use rl_events::{BookEvent, BookReply, Outcome};
 use rl_ids::{ConnNo, List, Moment, NoMemory, Text};
 use rl_turnlock::Machine;

@@ -1,7 +1,7 @@
-use super::*;
 use rl_ids::{Moment, NoMemory, Text};
 use rl_jsonfields::{Field, bad};
 use rl_types::Head;
+use rl_wireitems::*;
 use serde_json::Value;
 use std::alloc::Global;
 use std::test::*;

@@ -1,5 +1,5 @@
 // What no clause says: that calls succeed where memory lasts.
-use crate::{Applied, Counter, put, put_back, serial_of};
+use rl_counter::{Applied, Counter, put, put_back, serial_of};
 use rl_ids::{Copied, List, NoMemory, ObjectId, OpSerial, Place, read_site};
 use rl_numbers::limits::MAX_COUNTER_SUM;
 use rl_types::{ObjectBody, ObjectState, Op};

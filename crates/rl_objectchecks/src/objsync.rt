@@ -1,8 +1,8 @@
 // What no clause says: that calls succeed where memory lasts.
-use crate::ObjSync;
 use rl_ids::{
     Copied, List, MapValue, Moment, NoMemory, ObjectId, OpSerial, Place, Text, read_site,
 };
+use rl_objsync::ObjSync;
 use rl_types::{Cursor, ObjectBody, ObjectOp, ObjectState, Op};
 use std::alloc::Global;
 

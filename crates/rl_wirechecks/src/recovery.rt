@@ -1,5 +1,5 @@
-use super::*;
 use rl_ids::{ChannelSerial, Epoch, List, NoMemory, Place, Text};
+use rl_recovery::*;
 use rl_runs::RecoveryKey;
 use std::alloc::Global;
 use std::test::*;

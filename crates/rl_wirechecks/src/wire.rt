@@ -1,7 +1,7 @@
-use super::*;
 use rl_ids::{NoMemory, Text};
 use rl_jsonfields::{Field, bad, missing};
 use rl_types::{Frame, Given, WireFault};
+use rl_wire::*;
 use std::alloc::Global;
 use std::test::*;
 

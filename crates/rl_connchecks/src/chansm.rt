@@ -1,5 +1,5 @@
 // The table of a channel, pair by pair, and what its states say.
-use crate::{
+use rl_chansm::{
     ChanEvent, after_connection, attach_at_refused, attaches, awaits_attached, awaits_detached,
     chan_step, clears_channel, comes_up, detach_refused, detaches, event_of, forgets_serial,
     is_attached, lowered, operate_refused, presence_refused, publish_refused, raised, sends_attach,

@@ -1,6 +1,6 @@
 // What no clause says: that calls succeed where memory lasts.
-use crate::LiveMap;
 use rl_ids::{Copied, List, MapValue, Moment, NoMemory, OpSerial, Place, Text, read_site};
+use rl_livemap::LiveMap;
 use rl_numbers::limits::{CELL_WEIGHT, OBJECT_WEIGHT, TOMBSTONE_GRACE, VALUE_WEIGHT};
 use std::alloc::Global;
 

@@ -1,6 +1,6 @@
 // A map, call by call: with memory enough each call answers.
-use crate::{PresMap, PresenceEvent, newer};
 use rl_ids::{Copied, List, Moment, NoMemory, Text};
+use rl_presmap::{PresMap, PresenceEvent, newer};
 use rl_types::{Cursor, PresenceAction, PresenceItem};
 use std::alloc::Global;
 
