@@ -10,4 +10,3 @@ mod writing;
 
 pub use reading::read_recovery_key;
 pub use writing::write_recovery_key;
-

@@ -19,4 +19,3 @@ mod writing;
 
 pub use reading::read_frame;
 pub use writing::write_frame;
-

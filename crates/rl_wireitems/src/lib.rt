@@ -11,4 +11,3 @@ mod values;
 pub use messages_in::read_message_items;
 pub use presence_in::read_presence_items;
 pub use values::{message_values, presence_values, sync_values};
-

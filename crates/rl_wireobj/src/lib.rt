@@ -15,4 +15,3 @@ mod values;
 pub use items::{FromItem, ToItem, item_values, read_items};
 pub use operations::{op_value, read_op};
 pub use states::{read_state, state_value};
-
