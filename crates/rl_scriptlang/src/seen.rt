@@ -184,7 +184,7 @@ impl Seen {
         ensures { result ≡ (nat_le (published (self.now ++ line.now ∷ [])) MAX_PUBLISHED && nat_le (published (self.now ++ line.now ∷ []) + fed (self.now ++ line.now ∷ [])) MAX_PUT) }
     {
         let published = self.published + put_by(line);
-        published <= MAX_PUBLISHED && published + (self.fed + fed_by(line)) <= 4096
+        published <= MAX_PUBLISHED && published + (self.fed + fed_by(line)) <= MAX_PUT
     }
 
     fn in_scope(&self, line: &Line) -> bool
