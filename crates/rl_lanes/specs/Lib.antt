@@ -1,3 +1,4 @@
 pub mod Lanes
 pub mod Moves
 pub mod Sound
+pub mod Follows
