@@ -1,2 +1,3 @@
 pub mod Logs
 pub mod Flight
+pub mod Records
