@@ -1,3 +1,5 @@
 pub mod Logs
 pub mod Flight
 pub mod Records
+pub mod Holds
+pub mod Sends

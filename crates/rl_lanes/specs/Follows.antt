@@ -134,9 +134,9 @@ EndsWith runs away None = (runs ≡ []) ⊎ (away ≡ true)
 EndsWith runs away (Some serial) = EndsAt runs serial.place
 
 -- the last ATTACH that was sent gave the end of the record
-abbrev pub IsAskOf : Part → Ask → Type 0
-IsAskOf part (ToAttach given) = (given ≡ as_given part.asked) × EndsWith part.runs part.away part.asked
-IsAskOf part ToDetach = ⊤
+abbrev pub IsAskOf : List Run → Bool → Option ChannelSerial → Ask → Type 0
+IsAskOf runs away asked (ToAttach given) = (given ≡ as_given asked) × EndsWith runs away asked
+IsAskOf runs away asked ToDetach = ⊤
 
 -- WHAT COMES IS TRUE
 
@@ -187,7 +187,7 @@ pub record IsLinked (setup : Setup) (past : List ChannelEvent) (part : Part) (to
   pub owed : part.owed ≡ length (outstanding link)
   pub few : part.owed < 2 ^ 64 - 1
   pub told : AllByRecursion (IsTrue setup past (end_of part.runs) joins begun) link.coming
-  pub last : OfLast (IsAskOf part) (outstanding link)
+  pub last : OfLast (IsAskOf part.runs part.away part.asked) (outstanding link)
   pub nothing : part.state ≡ chan.Attached → part.owed ≡ 0
   pub flows : (part.owed ≡ 0 → part.state ≡ chan.Attached) → Flows setup part.owed took link
 
