@@ -24,7 +24,7 @@ answered_append (Shows page ∷ xs) ys = answered_append xs ys
 
 -- MORE BEHIND
 
-live_on : (took : List Took) (xs ys : List Coming) → live took (xs ++ ys) ≡ live (live took xs) ys
+pub live_on : (took : List Took) (xs ys : List Coming) → live took (xs ++ ys) ≡ live (live took xs) ys
 live_on took [] ys = refl
 live_on took (Gives epoch entry ∷ xs) ys = live_on (TookEntry entry ∷ took) xs ys
 live_on took (Shows page ∷ xs) ys = live_on (TookPage page ∷ took) xs ys
@@ -42,7 +42,7 @@ awaited_on (suc n) took (Fails given code ∷ xs) ys = awaited_on n took xs ys
 awaited_on (suc n) took (Gives epoch entry ∷ xs) ys = awaited_on (suc n) took xs ys
 awaited_on (suc n) took (Shows page ∷ xs) ys = awaited_on (suc n) took xs ys
 
-live_fits_on : (epoch : ℕ) (took : List Took) (xs ys : List Coming) → IsLive epoch took xs → IsLive epoch (live took xs) ys → IsLive epoch took (xs ++ ys)
+pub live_fits_on : (epoch : ℕ) (took : List Took) (xs ys : List Coming) → IsLive epoch took xs → IsLive epoch (live took xs) ys → IsLive epoch took (xs ++ ys)
 live_fits_on epoch took [] ys fits more = more
 live_fits_on epoch took (Gives other entry ∷ xs) ys fits more = (fits.0, fits.1, live_fits_on epoch (TookEntry entry ∷ took) xs ys fits.2 more)
 live_fits_on epoch took (Shows page ∷ xs) ys fits more = live_fits_on epoch (TookPage page ∷ took) xs ys fits more

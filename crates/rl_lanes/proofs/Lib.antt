@@ -3,3 +3,4 @@ pub mod Flight
 pub mod Records
 pub mod Holds
 pub mod Sends
+pub mod Serves
