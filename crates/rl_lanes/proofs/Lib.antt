@@ -4,3 +4,4 @@ pub mod Records
 pub mod Holds
 pub mod Sends
 pub mod Serves
+pub mod Gets
