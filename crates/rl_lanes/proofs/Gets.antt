@@ -40,7 +40,7 @@ abbrev pub link_of : List Coming → List Ask → Option Session → Link
 link_of coming asked session = record { coming = coming; asks = asked; session = session }
 
 -- what is left to be got after all that was taken is as true as before, whatever became of the record
-live_true : (setup : Setup) (past : List ChannelEvent) (end other : ℕ) (joins begun begun_then : List ℕ) (took : List Took) (more : List Coming) → IsLive setup.epoch took more
+pub live_true : (setup : Setup) (past : List ChannelEvent) (end other : ℕ) (joins begun begun_then : List ℕ) (took : List Took) (more : List Coming) → IsLive setup.epoch took more
     → AllByRecursion (IsTrue setup past end joins begun) more → AllByRecursion (IsTrue setup past other joins begun_then) more
 live_true setup past end other joins begun begun_then took [] fits told = tt
 live_true setup past end other joins begun begun_then took (Gives epoch entry ∷ more) fits told = (told.0, live_true setup past end other joins begun begun_then (TookEntry entry ∷ took) more fits.2 told.1)
@@ -49,7 +49,7 @@ live_true setup past end other joins begun begun_then took (Tells given number j
 live_true setup past end other joins begun begun_then took (Leaves ∷ more) fits told = absurd fits
 live_true setup past end other joins begun begun_then took (Fails given code ∷ more) fits told = absurd fits
 
-none_asked : (P : Ask → Type 0) (xs : List Ask) → zero ≡ length xs → OfLast P xs
+pub none_asked : (P : Ask → Type 0) (xs : List Ask) → zero ≡ length xs → OfLast P xs
 none_asked P [] none = tt
 none_asked P (x ∷ xs) none = absurd (cc)
 
@@ -101,7 +101,7 @@ passes setup past part joins begun one more asked session plain never holds = re
   linked = passed_on_link setup past part holds.took joins begun one more asked session plain never holds.linked;
 }
 
-attached_or_not : (state : ChanState) → (state ≡ chan.Attached) ⊎ (state ≡ chan.Attached → ⊥)
+pub attached_or_not : (state : ChanState) → (state ≡ chan.Attached) ⊎ (state ≡ chan.Attached → ⊥)
 attached_or_not chan.Attached = inl refl
 attached_or_not chan.Initialized = inr (λ is. absurd (cc))
 attached_or_not chan.Attaching = inr (λ is. absurd (cc))
@@ -167,7 +167,7 @@ object_page_part chan.Detached at states now channel = refl
 object_page_part chan.Suspended at states now channel = refl
 object_page_part chan.Failed at states now channel = refl
 
-shown_part : (page : Page) (now : ℕ) (channel : ClientChannel) → part_of (shown_got page now channel) ≡ part_of channel
+pub shown_part : (page : Page) (now : ℕ) (channel : ClientChannel) → part_of (shown_got page now channel) ≡ part_of channel
 shown_part (OfMembers at items last) now channel = page_part channel.state (Some at) items channel
 shown_part (EndOfMembers at) now channel = page_part channel.state (Some at) [] channel
 shown_part (OfObjects at states last) now channel = object_page_part channel.state (Some at) states now channel
@@ -272,7 +272,7 @@ pub got_at_other : (place : ℕ) (serial : ChannelSerial) (items : Body) (now : 
 got_at_other zero serial items now channel never = refl
 got_at_other (suc k) serial items now channel never = got_in_other channel.state k serial items now channel never
 
-entry_gets : (setup : Setup) (past : List ChannelEvent) (channel : ClientChannel) (joins begun : List ℕ) (other now : ℕ) (entry : Entry) (more : List Coming) (asked : List Ask) (session : Option Session)
+pub entry_gets : (setup : Setup) (past : List ChannelEvent) (channel : ClientChannel) (joins begun : List ℕ) (other now : ℕ) (entry : Entry) (more : List Coming) (asked : List Ask) (session : Option Session)
     → (channel.state ≡ chan.Attached) ⊎ (channel.state ≡ chan.Attached → ⊥)
     → Holds setup past (part_of channel) joins begun (Some (link_of (Gives other entry ∷ more) asked session))
     → Holds setup past (part_of (got_at entry.place (record { epoch = other; place = entry.place }) entry.body now channel)) joins begun (Some (link_of more asked session))
@@ -282,7 +282,7 @@ entry_gets setup past channel joins begun other now entry more asked session (in
     (sym (got_at_other entry.place (record { epoch = other; place = entry.place }) entry.body now channel never))
     (passes setup past (part_of channel) joins begun (Gives other entry) more asked session tt never holds)
 
-page_gets : (setup : Setup) (past : List ChannelEvent) (part : Part) (joins begun : List ℕ) (page : Page) (more : List Coming) (asked : List Ask) (session : Option Session)
+pub page_gets : (setup : Setup) (past : List ChannelEvent) (part : Part) (joins begun : List ℕ) (page : Page) (more : List Coming) (asked : List Ask) (session : Option Session)
     → (part.state ≡ chan.Attached) ⊎ (part.state ≡ chan.Attached → ⊥)
     → Holds setup past part joins begun (Some (link_of (Shows page ∷ more) asked session)) → Holds setup past part joins begun (Some (link_of more asked session))
 page_gets setup past part joins begun page more asked session (inl st) holds = page_taken setup past part joins begun page more asked session st holds

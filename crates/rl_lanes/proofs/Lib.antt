@@ -5,3 +5,4 @@ pub mod Holds
 pub mod Sends
 pub mod Serves
 pub mod Gets
+pub mod Answering
