@@ -102,7 +102,7 @@ passed_on_link : (setup : Setup) (past : List ChannelEvent) (part : Part) (took 
 passed_on_link setup past part took joins begun one ask more asked session is (inl old) = inl (passed_linked setup past part took joins begun one ask more asked session is old)
 passed_on_link setup past part took joins begun one ask more asked session is (inr stuck) = inr (record { owed = lowered_stuck part.owed stuck.owed ∙ stuck.owed; never = stuck.never })
 
-answer_passed : (setup : Setup) (past : List ChannelEvent) (part : Part) (joins begun : List ℕ) (one : Coming) (ask : Ask) (more : List Coming) (asked : List Ask) (session : Option Session) → IsAnswer one ask
+pub answer_passed : (setup : Setup) (past : List ChannelEvent) (part : Part) (joins begun : List ℕ) (one : Coming) (ask : Ask) (more : List Coming) (asked : List Ask) (session : Option Session) → IsAnswer one ask
     → Holds setup past part joins begun (Some (link_of (one ∷ more) asked session)) → Holds setup past (less_owed part) joins begun (Some (link_of more asked session))
 answer_passed setup past part joins begun one ask more asked session is holds = record {
   sound = holds.sound;

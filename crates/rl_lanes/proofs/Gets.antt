@@ -89,7 +89,7 @@ passed_on_link setup past part took joins begun one more asked session plain nev
   flows = λ may. flows_passed setup part.owed took one more asked session plain (λ none. never (may none)) (old.flows may);
 })
 
-passes : (setup : Setup) (past : List ChannelEvent) (part : Part) (joins begun : List ℕ) (one : Coming) (more : List Coming) (asked : List Ask) (session : Option Session)
+pub passes : (setup : Setup) (past : List ChannelEvent) (part : Part) (joins begun : List ℕ) (one : Coming) (more : List Coming) (asked : List Ask) (session : Option Session)
     → IsPlain one → (part.state ≡ chan.Attached → ⊥)
     → Holds setup past part joins begun (Some (link_of (one ∷ more) asked session)) → Holds setup past part joins begun (Some (link_of more asked session))
 passes setup past part joins begun one more asked session plain never holds = record {

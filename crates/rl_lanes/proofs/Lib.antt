@@ -6,3 +6,4 @@ pub mod Sends
 pub mod Serves
 pub mod Gets
 pub mod Answering
+pub mod Following
