@@ -18,6 +18,7 @@ use Rattle.rl_clientmodel.specs.Runs.{cause_of, segment_of, start_of}
 use Rattle.rl_clientmodel.specs.Commands.{channel_or_new}
 use Rattle.rl_actormodel.specs.Replies.{Joining}
 use Rattle.rl_lanes.specs.Lanes.{Setup, as_given, Lane}
+use Rattle.rl_lanes.specs.Moves.{Move, lane_of}
 
 -- EACH RUN BEGAN AT THE ANSWER TO A JOIN
 
@@ -104,3 +105,7 @@ pub record AreSoundRuns (setup : Setup) (past : List ChannelEvent) (joins begun 
 
 abbrev pub AreSound : Setup → Lane → Type 0
 AreSound setup lane = AreSoundRuns setup lane.past lane.joins lane.begun (channel_or_new lane.channel).runs
+
+-- whatever is cut, asked again and crossed, and whenever, the record is sound
+abbrev pub RecordsAreSound : Type 0
+RecordsAreSound = (setup : Setup) (moves : List Move) → AreSound setup (lane_of setup moves)

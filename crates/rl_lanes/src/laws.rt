@@ -1,1 +1,10 @@
 //! Laws over the definitions alone. Each is a function that does nothing: its contract is the law.
+ghost use Rattle.rl_lanes.specs.Sound.{RecordsAreSound};
+
+/// Whatever moves a lane, its record is sound: each run is one contiguous run of the channel's log, which began at the answer
+/// to a Join of the client's own, each at another one and in their order; only the first is Recovered, a later one is Opened
+/// only where the channel was DETACHED, SUSPENDED or FAILED since the one before began, and each starts at or past the end of
+/// the one before.
+pub fn records_are_sound()
+    ensures { RecordsAreSound }
+{}
