@@ -7,3 +7,4 @@ pub mod Serves
 pub mod Gets
 pub mod Answering
 pub mod Following
+pub mod Worked

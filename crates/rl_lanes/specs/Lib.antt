@@ -2,3 +2,4 @@ pub mod Lanes
 pub mod Moves
 pub mod Sound
 pub mod Follows
+pub mod Examples

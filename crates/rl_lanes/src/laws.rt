@@ -1,4 +1,5 @@
 //! Laws over the definitions alone. Each is a function that does nothing: its contract is the law.
+ghost use Rattle.rl_lanes.specs.Examples.{LanesAreWorked};
 ghost use Rattle.rl_lanes.specs.Sound.{RecordsAreSound};
 
 /// Whatever moves a lane, its record is sound: each run is one contiguous run of the channel's log, which began at the answer
@@ -7,4 +8,11 @@ ghost use Rattle.rl_lanes.specs.Sound.{RecordsAreSound};
 /// the one before.
 pub fn records_are_sound()
     ensures { RecordsAreSound }
+{}
+
+/// What some lanes come to: an answer that crosses a second ATTACH, a DETACH that crosses, a link cut with an entry on its way,
+/// what was not retained, and pages before entries.
+#[tactic(auto, using(crate::proofs::Worked::lanes_are_worked))]
+pub fn lanes_are_worked()
+    ensures { LanesAreWorked }
 {}
