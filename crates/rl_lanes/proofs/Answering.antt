@@ -1,7 +1,6 @@
 -- What a lane keeps where the client gets an answer.
 use Rattle.std.proofs.Common.{◌≡◌, ◌⊎◌, inl, inr, ℕ, zero, suc, ◌-◌, ◌^◌, ◌<◌, Bool, true, false, cond, List, [], ◌∷◌, ◌++◌, length, refl, sym, ◌∙◌, ap, subst, arith}
-use Rattle.std.specs.Prelude.{⊤, Option, Some, None, ◌==◌, ◌&&◌, not, nat_lt}
-use Rattle.std.specs.List.{AllByRecursion}
+use Rattle.std.specs.Prelude.{Option, Some, ◌==◌, ◌&&◌, not}
 use Rattle.rl_ids.specs.declared.serials.ChannelSerial.{ChannelSerial}
 use Rattle.rl_types.specs.declared.messages.Given.{Given}
 use Rattle.rl_types.specs.declared.states.ChanState.{ChanState}
@@ -11,22 +10,21 @@ use Rattle.rl_chansm.specs.Owed.{awaits_attached, is_last, lowered, takes_attach
 use Rattle.rl_chansm.specs.Rules.{is_attached}
 use Rattle.rl_chansm.specs.declared.table.ChanEvent.TheVariants as event
 use Rattle.rl_clientmodel.specs.declared.runs.Beginning.TheVariants.{Answered}
-use Rattle.rl_clientmodel.specs.declared.runs.Run.{Run}
 use Rattle.rl_clientmodel.specs.Runs.{goes_on_answered, runs_with}
-use Rattle.rl_clientmodel.specs.Channels.{ClientChannel, asks, detached, failed, moved, one_less, told}
+use Rattle.rl_clientmodel.specs.Channels.{ClientChannel, asks, failed, moved, one_less, told}
 use Rattle.rl_clientmodel.specs.Answers as answers
 use Rattle.rl_clientmodel.specs.Answers.{answered, attached_got, told_unasked}
 use Rattle.rl_actormodel.specs.declared.parts.Session.{Session}
 use Rattle.rl_actormodel.specs.Attaches.{flags_of}
 use Rattle.rl_actormodel.specs.Replies.{Joining}
 use Rattle.rl_lanes.specs.Lanes.{Setup, Ask, ToAttach, ToDetach, as_given, Coming, Tells, Leaves, Fails, Gives, Shows, Link}
-use Rattle.rl_lanes.specs.Moves.{asks_in, with_asks, begun_with, begins, got, asked_by, begun_by}
-use Rattle.rl_lanes.specs.Follows.{Took, Began, live, awaited, IsLive, Fits, answered_in, OfLast, Part, part_of, end_of, EndsWith, IsAskOf, IsTold, IsTrue, Flows, IsLinked, IsStuck, HoldsOnLink, Stands, Holds}
+use Rattle.rl_lanes.specs.Moves.{asks_in, begun_with, begins, got, asked_by}
+use Rattle.rl_lanes.specs.Follows.{Took, Began, answered_in, OfLast, Part, part_of, end_of, IsAskOf, IsTold, Flows, IsLinked, HoldsOnLink, Holds}
 use Rattle.rl_lanes.proofs.Flight.{later_ones, only_one}
-use Rattle.rl_lanes.proofs.Records.{Grown, joining_of, answer_taken}
+use Rattle.rl_lanes.proofs.Records.{Grown, answer_taken}
 use Rattle.rl_lanes.proofs.Holds.{moves}
-use Rattle.rl_lanes.proofs.Sends.{WithAsks, asks_none, seen_in}
-use Rattle.rl_lanes.proofs.Gets.{link_of, live_true, none_asked, attached_or_not}
+use Rattle.rl_lanes.proofs.Sends.{WithAsks, asks_none}
+use Rattle.rl_lanes.proofs.Gets.{link_of, live_true, none_asked}
 
 -- THE COUNT
 

@@ -1,6 +1,5 @@
 -- What a client will have taken, where more comes behind.
-use Rattle.std.proofs.Common.{◌≡◌, ℕ, zero, suc, ◌+◌, List, [], ◌∷◌, ◌++◌, length, refl, sym, ◌∙◌, ap, subst, arith}
-use Rattle.std.specs.Prelude.{⊤}
+use Rattle.std.proofs.Common.{◌≡◌, ℕ, zero, suc, List, [], ◌∷◌, ◌++◌, length, refl, sym, ◌∙◌, ap, subst, arith}
 use Rattle.rl_lanes.specs.Lanes.{Ask, ToAttach, ToDetach, Coming, Tells, Leaves, Fails, Gives, Shows}
 use Rattle.rl_lanes.specs.Follows.{Took, Began, TookEntry, TookPage, live, awaited, IsLive, Fits, answered_in, OfLast}
 

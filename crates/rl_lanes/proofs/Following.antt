@@ -1,8 +1,7 @@
 -- Every lane's record is sound.
-use Rattle.std.proofs.Common.{◌≡◌, ◌⊎◌, inl, inr, ℕ, Bool, true, List, [], ◌∷◌, refl, sym, subst}
+use Rattle.std.proofs.Common.{◌≡◌, inl, inr, ℕ, Bool, true, List, [], ◌∷◌, refl, sym, subst}
 use Rattle.std.specs.Prelude.{Option, Some, None, option_map}
 use Rattle.rl_ids.specs.declared.serials.ChannelSerial.{ChannelSerial}
-use Rattle.rl_types.specs.declared.states.ChanState.TheVariants as chan
 use Rattle.rl_events.specs.declared.channel.ChannelEvent.{ChannelEvent}
 use Rattle.rl_chansm.specs.declared.table.ChanEvent.TheVariants as event
 use Rattle.rl_clientmodel.specs.declared.steps.ChannelStep.{ChannelStep}
@@ -14,7 +13,7 @@ use Rattle.rl_lanes.specs.Lanes.{Setup, Ask, ToAttach, ToDetach, Coming, Tells, 
 use Rattle.rl_lanes.specs.Moves as moves
 use Rattle.rl_lanes.specs.Moves.{Move, with_own_members, got, begun_by, asked_by, steps_known, starts_at, recovers, gets_known, gets_first, gets, joins_first, refuses_first, parts_first, reads, turns, on_link, lane_after, lane_of}
 use Rattle.rl_lanes.specs.Sound.{AreSound}
-use Rattle.rl_lanes.specs.Follows.{Took, Part, part_of, IsLinked, HoldsOnLink, Holds, IsFollowing}
+use Rattle.rl_lanes.specs.Follows.{Took, part_of, HoldsOnLink, Holds, IsFollowing}
 use Rattle.rl_lanes.proofs.Holds.{grows}
 use Rattle.rl_lanes.proofs.Sends.{WithAsks, Stepped, asks_none, attaches, detaches, comes_up, suspends, closes, breaks, waits, collects, without_link, unlinks, opens}
 use Rattle.rl_lanes.proofs.Serves.{joins_one, answers_short, reads_follow, pages_follow}

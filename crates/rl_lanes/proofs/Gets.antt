@@ -1,40 +1,28 @@
 -- What a lane keeps where the client gets the first of what is coming.
-use Rattle.std.proofs.Common.{◌≡◌, ◌⊎◌, inl, inr, ℕ, zero, suc, ◌-◌, ◌^◌, ◌<◌, Bool, true, false, cond, List, [], ◌∷◌, ◌++◌, length, refl, sym, ◌∙◌, ap, subst, arith}
-use Rattle.std.specs.Prelude.{⊤, Option, Some, None, ◌==◌, ◌&&◌, not, slice_get}
+use Rattle.std.proofs.Common.{◌≡◌, ◌⊎◌, inl, inr, ℕ, zero, suc, Bool, true, false, cond, List, [], ◌∷◌, ◌++◌, length, refl, sym, ◌∙◌, ap, subst, arith}
+use Rattle.std.specs.Prelude.{⊤, Option, Some, ◌==◌, ◌&&◌, not}
 use Rattle.std.specs.List.{AllByRecursion}
 use Rattle.std.proofs.lemmas.Bool.{eq-eqb}
 use Rattle.rl_ids.specs.declared.serials.ChannelSerial.{ChannelSerial}
 use Rattle.rl_types.specs.declared.messages.Body.{Body}
 use Rattle.rl_types.specs.declared.messages.Body.TheVariants as body
 use Rattle.rl_types.specs.declared.messages.Entry.{Entry}
-use Rattle.rl_types.specs.declared.messages.Given.{Given}
 use Rattle.rl_types.specs.declared.frames.Cursor.{Cursor}
 use Rattle.rl_types.specs.declared.presence.PresenceItem.{PresenceItem}
 use Rattle.rl_types.specs.declared.objects.ObjectState.{ObjectState}
 use Rattle.rl_types.specs.declared.states.ChanState.{ChanState}
 use Rattle.rl_types.specs.declared.states.ChanState.TheVariants as chan
 use Rattle.rl_events.specs.declared.channel.ChannelEvent.{ChannelEvent}
-use Rattle.rl_chansm.specs.Owed.{lowered, takes_attached, takes_detached, takes_error, takes_unasked}
-use Rattle.rl_chansm.specs.Rules.{is_attached}
-use Rattle.rl_chansm.specs.declared.table.ChanEvent.TheVariants as event
-use Rattle.rl_model.specs.Verdict.{log}
-use Rattle.rl_clientmodel.specs.declared.runs.Beginning.TheVariants.{Answered, Skipped}
+use Rattle.rl_clientmodel.specs.declared.runs.Beginning.TheVariants.{Skipped}
 use Rattle.rl_clientmodel.specs.declared.runs.Run.{Run}
-use Rattle.rl_clientmodel.specs.Runs.{follows, goes_on_answered, got_onto, runs_with}
-use Rattle.rl_clientmodel.specs.Channels.{ClientChannel, asks, moved, one_less, told}
-use Rattle.rl_clientmodel.specs.Answers as answers
-use Rattle.rl_clientmodel.specs.Answers.{answered, told_unasked}
+use Rattle.rl_clientmodel.specs.Runs.{follows, got_onto, runs_with}
+use Rattle.rl_clientmodel.specs.Channels.{ClientChannel, told}
 use Rattle.rl_clientmodel.specs.Entries.{got_at, got_in, object_page_in, page_in, runs_before, skips, with_body, with_entry_got}
 use Rattle.rl_actormodel.specs.declared.parts.Session.{Session}
-use Rattle.rl_actormodel.specs.Attaches.{flags_of}
-use Rattle.rl_actormodel.specs.Replies.{Joining}
-use Rattle.rl_lanes.specs.Lanes.{Setup, Ask, ToAttach, ToDetach, as_given, Page, OfMembers, EndOfMembers, OfObjects, EndOfObjects, Coming, Tells, Leaves, Fails, Gives, Shows, Link}
-use Rattle.rl_lanes.specs.Moves.{asks_in, with_asks, begun_with, begins, shown_got, got, asked_by, begun_by}
-use Rattle.rl_lanes.specs.Follows.{Took, Began, TookEntry, TookPage, place_in, awaited, IsLive, Fits, answered_in, outstanding, OfLast, Part, part_of, end_of, EndsAt, EndsWith, IsAskOf, IsTold, IsTrue, Matches, Flows, IsLinked, IsStuck, HoldsOnLink, Stands, Holds}
-use Rattle.rl_lanes.proofs.Flight.{later_ones, only_one}
-use Rattle.rl_lanes.proofs.Records.{Grown, answer_taken, entry_taken}
-use Rattle.rl_lanes.proofs.Holds.{moves}
-use Rattle.rl_lanes.proofs.Sends.{WithAsks, asks_none, seen_in}
+use Rattle.rl_lanes.specs.Lanes.{Setup, Ask, Page, OfMembers, EndOfMembers, OfObjects, EndOfObjects, Coming, Tells, Leaves, Fails, Gives, Shows, Link}
+use Rattle.rl_lanes.specs.Moves.{shown_got}
+use Rattle.rl_lanes.specs.Follows.{Took, TookEntry, TookPage, IsLive, answered_in, OfLast, Part, part_of, end_of, EndsAt, EndsWith, IsAskOf, IsTrue, Flows, HoldsOnLink, Stands, Holds}
+use Rattle.rl_lanes.proofs.Records.{entry_taken}
 
 abbrev pub link_of : List Coming → List Ask → Option Session → Link
 link_of coming asked session = record { coming = coming; asks = asked; session = session }

@@ -1,9 +1,7 @@
 -- What a lane keeps where the channel takes an event of somebody else, and where the client's channel changes its state.
-use Rattle.std.proofs.Common.{◌≡◌, ◌⊎◌, inl, inr, ℕ, suc, ◌≤◌, Bool, true, false, List, [], ◌∷◌, ◌++◌, length, refl, sym, ◌∙◌, ap, subst, arith}
+use Rattle.std.proofs.Common.{◌≡◌, ◌⊎◌, inl, inr, ℕ, Bool, true, List, ◌∷◌, length, refl, sym, ap, subst, arith}
 use Rattle.std.specs.Prelude.{Option, Some, None, slice_get}
-use Rattle.std.specs.List.{AllByRecursion}
 use Rattle.rl_ids.specs.declared.serials.ChannelSerial.{ChannelSerial}
-use Rattle.rl_types.specs.declared.messages.Entry.{Entry}
 use Rattle.rl_types.specs.declared.states.ChanState.{ChanState}
 use Rattle.rl_types.specs.declared.states.ChanState.TheVariants as chan
 use Rattle.rl_events.specs.declared.channel.ChannelEvent.{ChannelEvent}
@@ -19,7 +17,7 @@ use Rattle.rl_clientmodel.specs.Channels.{ClientChannel, in_state, moved}
 use Rattle.rl_lanes.specs.Lanes.{Setup, Ask, ToAttach, ToDetach, Coming, Link}
 use Rattle.rl_lanes.specs.Lanes as lanes
 use Rattle.rl_lanes.specs.Sound.{IsAmong}
-use Rattle.rl_lanes.specs.Follows.{Took, outstanding, OfLast, Part, part_of, end_of, EndsWith, IsAskOf, IsTrue, Flows, IsLinked, IsStuck, HoldsOnLink, Stands, Holds}
+use Rattle.rl_lanes.specs.Follows.{Took, outstanding, Part, part_of, end_of, EndsWith, IsAskOf, IsTrue, IsLinked, HoldsOnLink, Holds}
 use Rattle.rl_lanes.proofs.Logs.{get_append, head_grows}
 use Rattle.rl_lanes.proofs.Flight.{last_weaker}
 use Rattle.rl_lanes.proofs.Records.{runs_grow, below_more}

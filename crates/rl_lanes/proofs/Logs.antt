@@ -1,5 +1,5 @@
 -- Logs and histories that grow.
-use Rattle.std.proofs.Common.{◌≡◌, ◌⊎◌, inl, inr, ℕ, zero, suc, ◌+◌, ◌-◌, ◌≤◌, Bool, true, false, cond, List, [], ◌∷◌, ◌++◌, length, take, drop, map, refl, sym, ◌∙◌, ap, subst, arith, length-append}
+use Rattle.std.proofs.Common.{◌≡◌, ◌⊎◌, inl, inr, ℕ, zero, suc, ◌+◌, ◌-◌, ◌≤◌, Bool, true, false, cond, List, [], ◌∷◌, ◌++◌, length, take, drop, refl, sym, ap, arith, length-append}
 use Rattle.std.specs.Prelude.{⊤, Option, Some, None, slice_get, nat_le, ◌==◌, ◌&&◌, option_to_list}
 use Rattle.std.specs.List.{AllByRecursion}
 use Rattle.std.proofs.lemmas.Bool.{leb-true}
@@ -12,9 +12,9 @@ use Rattle.rl_types.specs.declared.messages.Given.TheVariants.{Ours, Other}
 use Rattle.rl_types.specs.declared.presence.PresenceItem.{PresenceItem}
 use Rattle.rl_objmodel.specs.Rules.{Setting}
 use Rattle.rl_model.specs.History.{setting}
-use Rattle.rl_model.specs.Verdict.{Decision, entries, Judgement, Stale, Again, Known, Fails, Adds, judged, entry_if, entry_of, entry_of_gone, gone_entry, members_on, decided, decisions, log, head, run_between}
+use Rattle.rl_model.specs.Verdict.{Decision, entries, Judgement, Stale, Again, Known, Fails, Adds, judged, entry_if, entry_of, entry_of_gone, gone_entry, members_on, decided, decisions, log, head}
 use Rattle.rl_model.specs.Window.{first}
-use Rattle.rl_model.specs.Reply.{is_resumed, joined_place}
+use Rattle.rl_model.specs.Reply.{joined_place}
 use Rattle.rl_claims.proofs.Runs.{log_grows}
 
 -- LISTS

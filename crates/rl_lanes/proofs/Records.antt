@@ -1,6 +1,6 @@
 -- The record of a client while the channel goes on, and while it takes answers and entries.
-use Rattle.std.proofs.Common.{◌≡◌, ◌⊎◌, inl, inr, ℕ, zero, suc, ◌+◌, ◌-◌, ◌≤◌, ◌<◌, Bool, true, false, cond, List, [], ◌∷◌, ◌++◌, length, take, drop, map, refl, sym, ◌∙◌, ap, subst, arith, length-append}
-use Rattle.std.specs.Prelude.{⊤, Option, Some, None, slice_get, ◌==◌, ◌&&◌, not}
+use Rattle.std.proofs.Common.{◌≡◌, ◌⊎◌, inl, inr, ℕ, suc, ◌+◌, ◌-◌, ◌≤◌, Bool, true, false, cond, List, [], ◌∷◌, ◌++◌, length, take, drop, map, refl, sym, ◌∙◌, ap, subst, arith, length-append}
+use Rattle.std.specs.Prelude.{Option, Some, None, slice_get, ◌==◌, ◌&&◌, not}
 use Rattle.std.specs.List.{AllByRecursion}
 use Rattle.std.proofs.lemmas.Bool.{eq-eqb, eqb-true}
 use Rattle.std.proofs.lemmas.List.{map-append}
@@ -14,16 +14,15 @@ use Rattle.rl_events.specs.declared.channel.ChannelEvent.TheVariants.{Join}
 use Rattle.rl_model.specs.Verdict.{log, head, run_between}
 use Rattle.rl_model.specs.Window.{is_retained}
 use Rattle.rl_model.specs.Records.{got_of}
-use Rattle.rl_model.specs.Reply.{is_resumed, joined_place, asked_place}
-use Rattle.rl_runs.specs.declared.findings.Cause.{Cause}
-use Rattle.rl_runs.specs.declared.findings.Cause.TheVariants.{Opened, NotRetained, Recovered, Moved}
+use Rattle.rl_model.specs.Reply.{is_resumed, joined_place}
+use Rattle.rl_runs.specs.declared.findings.Cause.TheVariants.{Recovered, Moved}
 use Rattle.rl_claims.specs.Sound.{MayBegin}
 use Rattle.rl_claims.proofs.Sound.{each_weaker}
 use Rattle.rl_claims.proofs.Runs.{log_grows, run_more, run_stays}
 use Rattle.rl_clientmodel.specs.declared.runs.Beginning.{Beginning}
 use Rattle.rl_clientmodel.specs.declared.runs.Beginning.TheVariants.{Answered, Unasked, Skipped}
 use Rattle.rl_clientmodel.specs.declared.runs.Run.{Run}
-use Rattle.rl_clientmodel.specs.Runs.{begun, cause_of, answer_cause, goes_on_answered, got_onto, runs_with, same_serial, start_of}
+use Rattle.rl_clientmodel.specs.Runs.{begun, answer_cause, goes_on_answered, got_onto, runs_with, same_serial, start_of}
 use Rattle.rl_actormodel.specs.Replies.{Joining}
 use Rattle.rl_lanes.specs.Lanes.{Setup, as_given}
 use Rattle.rl_lanes.specs.Moves.{begun_with}

@@ -1,5 +1,5 @@
 -- What a lane keeps where the actor of its link answers, reads and turns a page.
-use Rattle.std.proofs.Common.{◌≡◌, ◌⊎◌, inl, inr, ℕ, zero, suc, ◌+◌, ◌≤◌, Bool, true, false, cond, List, [], ◌∷◌, ◌++◌, length, take, drop, map, refl, sym, ◌∙◌, ap, subst, arith, append_assoc}
+use Rattle.std.proofs.Common.{◌≡◌, inl, inr, ℕ, zero, suc, ◌+◌, ◌≤◌, Bool, true, false, cond, List, [], ◌∷◌, ◌++◌, length, take, drop, map, refl, sym, ◌∙◌, ap, subst, arith, append_assoc}
 use Rattle.std.specs.Prelude.{⊤, Option, Some, None, ◌||◌, nat_lt}
 use Rattle.std.specs.List.{AllByRecursion}
 use Rattle.rl_types.specs.declared.messages.Entry.{Entry}
@@ -18,12 +18,11 @@ use Rattle.rl_pages.specs.State.{Sequences, next_event, page_absorbed, may_end, 
 use Rattle.rl_actormodel.specs.declared.parts.Session.{Session}
 use Rattle.rl_actormodel.specs.Attaches.{new_session}
 use Rattle.rl_actormodel.specs.Reads.{moved_on}
-use Rattle.rl_actormodel.specs.Replies.{Joining, Reading, reading}
+use Rattle.rl_actormodel.specs.Replies.{Joining, reading}
 use Rattle.rl_actormodel.specs.Pagings.{ended_here, paged}
 use Rattle.rl_lanes.specs.Lanes.{Setup, Ask, ToAttach, ToDetach, Page, EndOfMembers, EndOfObjects, Coming, Tells, Leaves, Fails, Gives, Shows, Link, Lane}
-use Rattle.rl_lanes.specs.Moves.{end_pages, ends_here, page_in, reads_by, reads, turns_to, turns_page, turns}
-use Rattle.rl_lanes.specs.Sound.{IsAmong, AreSoundRuns}
-use Rattle.rl_lanes.specs.Follows.{Took, Began, TookEntry, TookPage, place_in, live, awaited, IsLive, Fits, answered_in, outstanding, OfLast, Part, end_of, IsAskOf, AllBelow, IsTold, IsTrue, Matches, Flows, IsLinked, HoldsOnLink, Holds, IsFollowing}
+use Rattle.rl_lanes.specs.Moves.{ends_here, page_in, reads_by, reads, turns_to, turns_page, turns}
+use Rattle.rl_lanes.specs.Follows.{Took, TookEntry, TookPage, place_in, live, awaited, IsLive, Fits, answered_in, outstanding, OfLast, Part, end_of, IsAskOf, AllBelow, IsTold, IsTrue, Matches, Flows, IsLinked, HoldsOnLink, Holds, IsFollowing}
 use Rattle.rl_lanes.proofs.Logs.{append_none, each_append, AreAt, read_at, head_grows, joined_low}
 use Rattle.rl_lanes.proofs.Flight.{left_over, left_is, answered_append, live_on, awaited_on, live_fits_on, fits_on, ahead, behind}
 use Rattle.rl_lanes.proofs.Records.{runs_grow, below_more, end_within}

@@ -2,7 +2,6 @@
 use Rattle.std.specs.Prelude.{◌≡◌, ℕ, Bool, true, false, List, [], ◌∷◌, ◌++◌, map, reverse, Option, Some, None, option_map, codes}
 use Rattle.rl_numbers.specs.declared.codes.TheConstants.{CHANNEL_LIMIT, NOT_RETAINED}
 use Rattle.rl_ids.specs.declared.serials.ChannelSerial.{ChannelSerial}
-use Rattle.rl_types.specs.declared.frames.Cursor.{Cursor}
 use Rattle.rl_types.specs.declared.frames.Frame.{Frame}
 use Rattle.rl_types.specs.declared.frames.Frame.TheVariants as frames
 use Rattle.rl_types.specs.declared.messages.Body.{Body}
@@ -10,15 +9,13 @@ use Rattle.rl_types.specs.declared.messages.Body.TheVariants.{Messages}
 use Rattle.rl_types.specs.declared.messages.Given.TheVariants.{Ours}
 use Rattle.rl_types.specs.declared.states.ChanState.{ChanState}
 use Rattle.rl_types.specs.declared.states.ChanState.TheVariants as chan
-use Rattle.rl_events.specs.declared.channel.ChannelEvent.{ChannelEvent}
 use Rattle.rl_events.specs.declared.channel.ChannelEvent.TheVariants.{Put, Tick}
 use Rattle.rl_runs.specs.declared.findings.Cause.{Cause}
 use Rattle.rl_runs.specs.declared.findings.Cause.TheVariants.{Opened, NotRetained, Recovered}
 use Rattle.rl_runs.specs.declared.findings.Segment.{Segment}
-use Rattle.rl_clientmodel.specs.Channels.{ClientChannel}
 use Rattle.rl_clientmodel.specs.Runs.{segment_of}
 use Rattle.rl_clientmodel.specs.Commands.{channel_or_new}
-use Rattle.rl_lanes.specs.Lanes.{Setup, Ask, ToAttach, Coming, Leaves, Gives, Link, Lane, frame_of}
+use Rattle.rl_lanes.specs.Lanes.{Setup, ToAttach, Link, Lane, frame_of}
 use Rattle.rl_lanes.specs.Moves.{Move, Happens, Attaches, StartsAt, Detaches, Recovers, Waits, Keeps, Suspends, Closes, Breaks, Unlinks, Opens, ComesUp, Gets, Joins, Refuses, Parts, Reads, TurnsPage, lane_of}
 
 abbrev pub the_setup : Setup

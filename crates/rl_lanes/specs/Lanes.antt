@@ -1,7 +1,6 @@
 -- A lane: one channel of one client, with what lies between it and the service on the client's latest transport.
 use Rattle.std.specs.Prelude.{ℕ, List, [], Option, Some, None, option_map}
 use Rattle.rl_ids.specs.declared.serials.ChannelSerial.{ChannelSerial}
-use Rattle.rl_types.specs.declared.messages.Body.{Body}
 use Rattle.rl_types.specs.declared.messages.Entry.{Entry}
 use Rattle.rl_types.specs.declared.messages.Given.{Given}
 use Rattle.rl_types.specs.declared.messages.Given.TheVariants.{Ours}

@@ -1,9 +1,7 @@
 -- What moves a lane. Each move is possible at any time: where it has nothing to move it does nothing.
-use Rattle.std.specs.Prelude.{ℕ, Bool, true, false, ◌&&◌, not, if◌then◌else◌, List, [], ◌∷◌, ◌++◌, length, map, flat_map, fold, Option, Some, None, option_map}
+use Rattle.std.specs.Prelude.{ℕ, Bool, true, false, ◌&&◌, not, if◌then◌else◌, List, [], ◌∷◌, ◌++◌, length, map, flat_map, Option, Some, None, option_map}
 use Rattle.rl_ids.specs.declared.serials.ChannelSerial.{ChannelSerial}
-use Rattle.rl_types.specs.declared.messages.Entry.{Entry}
 use Rattle.rl_types.specs.declared.messages.Given.{Given}
-use Rattle.rl_types.specs.declared.frames.Cursor.{Cursor}
 use Rattle.rl_types.specs.declared.frames.Frame.{Frame}
 use Rattle.rl_types.specs.declared.frames.Frame.TheVariants as frames
 use Rattle.rl_events.specs.declared.channel.ChannelEvent.{ChannelEvent}
@@ -11,11 +9,10 @@ use Rattle.rl_events.specs.declared.channel.ChannelEvent.TheVariants.{Join, Read
 use Rattle.rl_events.specs.declared.channel.ChannelReply.{ChannelReply}
 use Rattle.rl_events.specs.declared.channel.ChannelReply.TheVariants as replies
 use Rattle.rl_events.specs.declared.calls.Reply.TheVariants.{Chan}
-use Rattle.rl_chansm.specs.declared.table.ChanEvent.{ChanEvent}
 use Rattle.rl_chansm.specs.declared.table.ChanEvent.TheVariants as event
 use Rattle.rl_model.specs.Reply.{reply}
 use Rattle.rl_pages.specs.Frames.{page_at, end_at}
-use Rattle.rl_pages.specs.State.{Sequences, next_event, next_number, page_absorbed, is_complete, may_end}
+use Rattle.rl_pages.specs.State.{Sequences, next_event, next_number, page_absorbed, may_end}
 use Rattle.rl_clientmodel.specs.declared.steps.ChannelStep.{ChannelStep}
 use Rattle.rl_clientmodel.specs.declared.steps.ChannelStep.TheVariants as kinds
 use Rattle.rl_clientmodel.specs.Channels.{ClientChannel, channel_after, channel_asks, channel_from}

@@ -1,5 +1,5 @@
 -- What the record of a lane may be trusted for.
-use Rattle.std.specs.Prelude.{◌≡◌, ◌⊎◌, ⊤, ℕ, ◌≤◌, ◌<◌, Bool, true, false, List, [], ◌∷◌, ◌++◌, length, Option, Some, None}
+use Rattle.std.specs.Prelude.{◌≡◌, ◌⊎◌, ⊤, ℕ, ◌≤◌, ◌<◌, Bool, true, false, List, [], ◌∷◌, ◌++◌, length, Option}
 use Rattle.std.specs.List.{AllByRecursion}
 use Rattle.rl_ids.specs.declared.serials.ChannelSerial.{ChannelSerial}
 use Rattle.rl_types.specs.declared.messages.Given.{Given}
@@ -16,7 +16,6 @@ use Rattle.rl_clientmodel.specs.declared.runs.Beginning.TheVariants.{Answered, U
 use Rattle.rl_clientmodel.specs.declared.runs.Run.{Run}
 use Rattle.rl_clientmodel.specs.Runs.{cause_of, segment_of, start_of}
 use Rattle.rl_clientmodel.specs.Commands.{channel_or_new}
-use Rattle.rl_actormodel.specs.Replies.{Joining}
 use Rattle.rl_lanes.specs.Lanes.{Setup, as_given, Lane}
 use Rattle.rl_lanes.specs.Moves.{Move, lane_of}
 
