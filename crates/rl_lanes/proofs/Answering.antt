@@ -259,9 +259,9 @@ tells_awaited : (setup : Setup) (past : List ChannelEvent) (given : Option Given
     → TellsGets setup past number joining (counted state owed channel) joins begun more asked session
 tells_awaited setup past given number joining state owed channel joins begun more asked session st one holds old =
     let P : ChanState → ℕ → Type 0 = λ s n.
-        (h : Holds setup past (part_of (counted s n channel)) joins begun (Some (link_of (Tells given number joining ∷ more) asked session)))
-        → IsLinked setup past (part_of (counted s n channel)) h.took joins begun (link_of (Tells given number joining ∷ more) asked session)
-        → TellsGets setup past number joining (counted s n channel) joins begun more asked session in
+    (h : Holds setup past (part_of (counted s n channel)) joins begun (Some (link_of (Tells given number joining ∷ more) asked session)))
+    → IsLinked setup past (part_of (counted s n channel)) h.took joins begun (link_of (Tells given number joining ∷ more) asked session)
+    → TellsGets setup past number joining (counted s n channel) joins begun more asked session in
     let at_one : P chan.Attaching 1 = tells_taken setup past given number joining channel joins begun more asked session in
     subst (λ s. P s owed) (sym st) (subst (λ n. P chan.Attaching n) (sym one) at_one) holds old
 

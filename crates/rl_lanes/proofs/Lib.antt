@@ -7,4 +7,5 @@ pub mod Serves
 pub mod Gets
 pub mod Answering
 pub mod Following
+pub mod Frames
 pub mod Worked

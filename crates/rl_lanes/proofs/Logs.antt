@@ -74,10 +74,10 @@ pub place_is : (site : List ℕ) (past : List ChannelEvent) (k : ℕ) (e : Entry
 place_is site [] k e found = absurd (cc)
 place_is site (event ∷ past) k e found =
     by_side (get_last (log site past) (decided (setting site (event ∷ past)) (decisions site past) event).entry k e found) (λ old. place_is site past k e old) where
-  by_side : (slice_get (log site past) k ≡ Some e) ⊎ ((k ≡ length (log site past)) × ((decided (setting site (event ∷ past)) (decisions site past) event).entry ≡ Some e))
-      → (slice_get (log site past) k ≡ Some e → e.place ≡ suc k) → e.place ≡ suc k
-  by_side (inl old) earlier = earlier old
-  by_side (inr new) earlier = omega (arith, new.0, decided_place (setting site (event ∷ past)) (decisions site past) event e new.1)
+      by_side : (slice_get (log site past) k ≡ Some e) ⊎ ((k ≡ length (log site past)) × ((decided (setting site (event ∷ past)) (decisions site past) event).entry ≡ Some e))
+          → (slice_get (log site past) k ≡ Some e → e.place ≡ suc k) → e.place ≡ suc k
+      by_side (inl old) earlier = earlier old
+      by_side (inr new) earlier = omega (arith, new.0, decided_place (setting site (event ∷ past)) (decisions site past) event e new.1)
 
 -- RUNS
 

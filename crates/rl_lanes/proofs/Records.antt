@@ -223,8 +223,7 @@ pub entry_taken : (setup : Setup) (past : List ChannelEvent) (joins numbers : Li
     → AreSoundRuns setup past joins numbers (got_onto (e.place, e.body) runs) × EndsAt (got_onto (e.place, e.body) runs) e.place
 entry_taken setup past joins numbers [] k e at found ends sound = (sound, tt)
 entry_taken setup past joins numbers (run ∷ runs) k e at found ends sound =
-    let found' : slice_get (log setup.site past) (run_end run) ≡ Some e = subst (λ n. slice_get (log setup.site past) n ≡ Some e) ends found in
-    (
+    let found' : slice_get (log setup.site past) (run_end run) ≡ Some e = subst (λ n. slice_get (log setup.site past) n ≡ Some e) ends found in (
       record {
         each = (one_more setup past run e sound.each.0 (at ∙ ap suc ends) found', sound.each.1);
         begin = begun_got setup past numbers run runs (run.got ++ (e.place, e.body) ∷ []) sound.begin;

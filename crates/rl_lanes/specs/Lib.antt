@@ -2,4 +2,5 @@ pub mod Lanes
 pub mod Moves
 pub mod Sound
 pub mod Follows
+pub mod Frames
 pub mod Examples

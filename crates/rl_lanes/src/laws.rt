@@ -1,5 +1,6 @@
 //! Laws over the definitions alone. Each is a function that does nothing: its contract is the law.
 ghost use Rattle.rl_lanes.specs.Examples.{LanesAreWorked};
+ghost use Rattle.rl_lanes.specs.Frames.{FramesAreTheMachines};
 ghost use Rattle.rl_lanes.specs.Sound.{RecordsAreSound};
 
 /// Whatever moves a lane, its record is sound: each run is one contiguous run of the channel's log, which began at the answer
@@ -15,4 +16,10 @@ pub fn records_are_sound()
 #[tactic(auto, using(crate::proofs::Worked::lanes_are_worked))]
 pub fn lanes_are_worked()
     ensures { LanesAreWorked }
+{}
+
+/// What a lane puts out is, as frames, what the actor puts out; and a client that hears such a frame makes of its channel what
+/// the lane says.
+pub fn frames_are_the_machines()
+    ensures { FramesAreTheMachines }
 {}
