@@ -1,0 +1,11 @@
+pub mod Logs
+pub mod Flight
+pub mod Records
+pub mod Holds
+pub mod Sends
+pub mod Serves
+pub mod Gets
+pub mod Answering
+pub mod Following
+pub mod Frames
+pub mod Worked
