@@ -1,6 +1,6 @@
 -- Channels grow: numbers stay, and logs only get longer.
-use Rattle.std.proofs.Common.{◌≡◌, ℕ, zero, suc, ◌≤◌, Bool, true, false, cond, List, [], ◌∷◌, ◌++◌, length, map, refl, sym, ◌∙◌, ap, subst, arith}
-use Rattle.std.specs.Prelude.{Option, Some, None, bytes_eq, slice_get, if◌then◌else◌}
+use Rattle.std.proofs.Common.{◌≡◌, ℕ, zero, suc, ◌≤◌, Bool, true, false, List, [], ◌∷◌, ◌++◌, length, refl, ◌∙◌, ap, subst, arith}
+use Rattle.std.specs.Prelude.{Option, Some, None, bytes_eq, if◌then◌else◌}
 use Rattle.std.proofs.lemmas.List.{map-append}
 use Rattle.rl_events.specs.declared.channel.ChannelEvent.{ChannelEvent}
 use Rattle.rl_events.specs.declared.calls.Call.{Call}
@@ -10,13 +10,12 @@ use Rattle.rl_events.specs.declared.calls.DirReply.TheVariants as dirs
 use Rattle.rl_events.specs.declared.calls.Reply.TheVariants as replies
 use Rattle.rl_directory.specs.Directory.{number_of, is_full, asked_by}
 use Rattle.rl_directory.proofs.Keeping.{or_else, here, behind}
-use Rattle.rl_model.specs.Verdict.{head}
 use Rattle.rl_actormodel.specs.Replies.{numbering, Numbering, Has}
-use Rattle.rl_worldmodel.specs.World.{World, the_site, changed_at, names, past_of}
+use Rattle.rl_worldmodel.specs.World.{World, the_site, changed_at, names}
 use Rattle.rl_worldmodel.specs.Calls.{event_onto, named_by, with_name, called}
 use Rattle.rl_worldtold.specs.Truth.{Channels, names_of}
 use Rattle.rl_worldtold.proofs.Shape.{map_changed, self_bytes}
-use Rattle.rl_worldsessions.specs.Serving.{HasNumber, history_in, last_place}
+use Rattle.rl_worldsessions.specs.Serving.{HasNumber, last_place}
 use Rattle.rl_worldsessions.proofs.Logs.{head_grows}
 
 pub record Grown (before after : Channels) : Type 0 where

@@ -1,3 +1,4 @@
 pub mod Entries
 pub mod Logs
 pub mod Growth
+pub mod Actors
