@@ -2,3 +2,5 @@ pub mod Entries
 pub mod Logs
 pub mod Growth
 pub mod Actors
+pub mod Found
+pub mod Serving
