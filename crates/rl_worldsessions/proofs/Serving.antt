@@ -161,3 +161,161 @@ wanted_serves world call s wants good =
     (λ free. subst (Serves (called call world).channels) (sym (wish_answers s.wish s.hello world.now call wants (reply_to call world) world.now s))
         (replied_serves (called call world).channels s free (serves_grows world.channels (called call world).channels (grown_call call world) s good) s.wish (reply_to call world) world.now
         (suits world s free s.wish call refl wants (serves_grows world.channels (called call world).channels (grown_call call world) s good)))) h
+
+-- ONE STEP
+
+-- an actor does something by itself
+serving_by : (world : World) (k : ℕ) (t : Transport) (f : Transport → Transport) → slice_get world.transports k ≡ Some t → (Serves world.channels t.actor → IsServing world.channels (f t)) → AreServing world → AreServing (on_transport k f world)
+serving_by world k t f found step h =
+    serving_on world world k f (grown_same world.channels) refl
+    (λ u is good.
+        let both : Some t ≡ Some u = sym found ∙ is in
+        let one : t ≡ u = cc in
+        subst (λ (v : Transport). IsServing world.channels (f v)) one (step (subst (λ (v : Transport). Serves world.channels v.actor) (sym one) good))) h
+
+not_ended : (o : Option End) → is_some o ≡ false → o ≡ None
+not_ended None is = refl
+not_ended (Some why) is = absurd (cc)
+
+steps_by : (world : World) (k : ℕ) (t : Transport) (o : Option Call) (ended cut : Bool) (next : Option Frame) (rests : Bool) → slice_get world.transports k ≡ Some t → next_call world.now t.actor ≡ o → is_some t.actor.ended ≡ ended → AreServing world
+    → AreServing (done k (deed_by o ended cut next rests) world)
+steps_by world k t (Some call) ended cut next rests found is ends_ h =
+    performs_serving world k call (λ u there good.
+        let both : Some t ≡ Some u = sym found ∙ there in
+        let one : t ≡ u = cc in
+        subst (λ (v : Transport). Serves (called call world).channels (absorbed call (reply_to call world) world.now v.actor)) one
+        (wanted_serves world call t.actor is (subst (λ (v : Transport). Serves world.channels v.actor) (sym one) good))) h
+steps_by world k t None true cut next rests found is ends_ h = h
+steps_by world k t None false true next rests found is ends_ h =
+    serving_by world k t (works (over ends.LinkEnded)) found (λ good. works_serving world.channels (over ends.LinkEnded) t (over_serves world.channels ends.LinkEnded t.actor.ended t.actor good)) h
+steps_by world k t None false false (Some frame) rests found is ends_ h =
+    serving_by world k t (takes_up frame world.now) found
+    (λ good. works_serving world.channels (took (arrives frame) world.now) (record t { to_service = with_one_got t.to_service }) (took_serves world.channels (arrives frame) world.now t.actor (not_ended t.actor.ended ends_) good)) h
+steps_by world k t None false false None true found is ends_ h =
+    serving_by world k t (works (rested world.now)) found (λ good. works_serving world.channels (rested world.now) t (rested_serves world.channels world.now t.actor good)) h
+steps_by world k t None false false None false found is ends_ h = h
+
+steps_of : (world : World) (k : ℕ) (o : Option Transport) → slice_get world.transports k ≡ o → AreServing world → AreServing (done k (deed_of world.now o) world)
+steps_of world k None found h = h
+steps_of world k (Some t) found h = steps_by world k t (next_call world.now t.actor) (is_some t.actor.ended) t.cut (slice_get t.to_service.put t.to_service.got) (does_rest world.now t.actor) found refl refl h
+
+steps_serving : (world : World) (k : ℕ) → AreServing world → AreServing (steps k world)
+steps_serving world k h = steps_of world k (slice_get world.transports k) refl h
+
+-- READS
+
+abbrev read_call : Session → Call
+read_call session = calls.Chan session.number (Read session.position READ_ENTRIES)
+
+read_fits : (channels : Channels) (session : Session) (past : List ChannelEvent) (behind : Bool) → session.position ≤ head the_site past → head the_site past ≤ last_place session.number channels
+    → IsReadFor channels session (reading (replies.Chan (answers.Read (if behind then NotRetained (first the_site past) else Run (take READ_ENTRIES (drop session.position (log the_site past)))))))
+read_fits channels session past true within low = tt
+read_fits channels session past false within low =
+    omega (arith, take_low READ_ENTRIES (drop session.position (log the_site past)), drop_low session.position (log the_site past) within, low)
+
+read_absorbed : (world : World) (name : List ℕ) (session : Session) (s : actor.State) → at name s.sessions ≡ Some session → Serves world.channels s
+    → Serves (called (read_call session) world).channels (absorbed (read_call session) (reply_to (read_call session) world) world.now s)
+read_absorbed world name session s found good =
+    let after : Channels = (called (read_call session) world).channels in
+    let g : Grown world.channels (called (read_call session) world).channels = grown_call (read_call session) world in
+    let own : IsSessionOf world.channels (name, session) = all_found (IsSessionOf world.channels) name session s.sessions good.sessions found in
+    let h : Serves (called (read_call session) world).channels s = serves_grows world.channels (called (read_call session) world).channels g s good in
+    let later : IsSessionOf (called (read_call session) world).channels (name, session) = all_found (IsSessionOf (called (read_call session) world).channels) name session s.sessions h.sessions found in
+    absorbed_serves (called (read_call session) world).channels s.ended (read_call session) (reply_to (read_call session) world) world.now s
+    (λ free. subst (λ (o : Option (List ℕ × Session)). Serves (called (read_call session) world).channels (on_session (λ n one. read_by n one (reading (reply_to (read_call session) world)) world.now) o s))
+        (sym (number_found world.channels name session s.sessions good.sessions own.numbered found))
+        (read_serves (called (read_call session) world).channels name session (reading (reply_to (read_call session) world)) world.now s later
+        (read_fits (called (read_call session) world).channels session (history session.number world) (nat_lt (session.position + 1) (first the_site (history session.number world)) || nat_lt (head the_site (history session.number world)) session.position) own.within (g.low session.number)) h)) h
+
+poll_by : (world : World) (k : ℕ) (t : Transport) (name : List ℕ) (call : Call) (free : Bool) (o : Option Session) → slice_get world.transports k ≡ Some t → at name t.actor.sessions ≡ o
+    → (if free then call_of read_of o else None) ≡ Some call → AreServing world → AreServing (performs k call world)
+poll_by world k t name call false o found is wants h = absurd (cc)
+poll_by world k t name call true None found is wants h = absurd (cc)
+poll_by world k t name call true (Some session) found is wants h =
+    let same : calls.Chan session.number (Read session.position READ_ENTRIES) ≡ call = cc in
+    subst (λ (c : Call). AreServing (performs k c world)) same
+    (performs_serving world k (read_call session) (λ u there good.
+        let both : Some t ≡ Some u = sym found ∙ there in
+        let one : t ≡ u = cc in
+        subst (λ (v : Transport). Serves (called (read_call session) world).channels (absorbed (read_call session) (reply_to (read_call session) world) world.now v.actor)) one
+        (read_absorbed world name session t.actor is (subst (λ (v : Transport). Serves world.channels v.actor) (sym one) good))) h)
+
+poll_cut : (world : World) (k : ℕ) (t : Transport) (name : List ℕ) (call : Call) (cut : Bool) → slice_get world.transports k ≡ Some t → unless_cut cut (poll_call name t.actor) ≡ Some call → AreServing world → AreServing (performs k call world)
+poll_cut world k t name call true found wants h = absurd (cc)
+poll_cut world k t name call false found wants h = poll_by world k t name call (actor.is_free t.actor) (at name t.actor.sessions) found refl wants h
+
+poll_on : (world : World) (k : ℕ) (name : List ℕ) (o : Option Transport) (call : Call) → slice_get world.transports k ≡ o → call_on (poll_call name) o ≡ Some call → AreServing world → AreServing (performs k call world)
+poll_on world k name None call found wants h = absurd (cc)
+poll_on world k name (Some t) call found wants h = poll_cut world k t name call t.cut found wants h
+
+polls_of : (world : World) (k : ℕ) (name : List ℕ) (o : Option Call) → next_poll k name world ≡ o → AreServing world → AreServing (performs_if k o world)
+polls_of world k name None is h = h
+polls_of world k name (Some call) is h = poll_on world k name (slice_get world.transports k) call refl is h
+
+polls_serving : (world : World) (k : ℕ) (name : List ℕ) → AreServing world → AreServing (polls k name world)
+polls_serving world k name h = polls_of world k name (next_poll k name world) refl h
+
+-- PAGES
+
+-- a page of a session comes from within the log of its channel
+abbrev PageStays : Call → Type 0
+PageStays call = (world : World) (s : actor.State) → Serves world.channels s → Serves (called call world).channels (absorbed call (reply_to call world) world.now s)
+
+paged_by : (channels : Channels) (number last : ℕ) (reply : Reply) (now : ℕ) (s : actor.State) → ArePaged channels last (channel_reply reply) → last ≤ last_place number channels → (o : Option (List ℕ × Session)) → actor.numbered number s.sessions ≡ o
+    → ((e : List ℕ × Session) → e.1.number ≡ number → ArePaged channels (last_place e.1.number channels) (channel_reply reply)) → Serves channels s
+    → Serves channels (on_session (λ name session. page_by name session (channel_reply reply) now) o s)
+paged_by channels number last reply now s paged low None is fits h = h
+paged_by channels number last reply now s paged low (Some e) is fits h =
+    page_serves channels e.0 e.1 (channel_reply reply) now s (all_find (IsSessionOf channels) (actor.has_number number) e s.sessions h.sessions is)
+    (fits e (eqb-true e.1.number number (found_passes (actor.has_number number) s.sessions e is))) h
+
+low_at : (channels : Channels) (number last : ℕ) (e : List ℕ × Session) → last ≤ last_place number channels → e.1.number ≡ number → last ≤ last_place e.1.number channels
+low_at channels number last e low same = subst (λ (n : ℕ). last ≤ last_place n channels) (sym same) low
+
+members_stay : (number : ℕ) (after : Option Rattle.rl_ids.specs.declared.members.MemberKey.MemberKey) (most : ℕ) → PageStays (calls.Chan number (MemberPage after most))
+members_stay number after most world s good =
+    let call : Call = calls.Chan number (MemberPage after most) in
+    let g : Grown world.channels (called (calls.Chan number (MemberPage after most)) world).channels = grown_call (calls.Chan number (MemberPage after most)) world in
+    let channels : Channels = (called (calls.Chan number (MemberPage after most)) world).channels in
+    let h : Serves (called (calls.Chan number (MemberPage after most)) world).channels s = serves_grows world.channels (called (calls.Chan number (MemberPage after most)) world).channels g s good in
+    absorbed_serves (called (calls.Chan number (MemberPage after most)) world).channels s.ended (calls.Chan number (MemberPage after most)) (reply_to (calls.Chan number (MemberPage after most)) world) world.now s
+    (λ free. paged_by (called (calls.Chan number (MemberPage after most)) world).channels number (last_place number world.channels) (reply_to (calls.Chan number (MemberPage after most)) world) world.now s (omega arith) (g.low number) (actor.numbered number s.sessions) refl
+        (λ e same. low_at (called (calls.Chan number (MemberPage after most)) world).channels number (last_place number world.channels) e (g.low number) same) h) h
+
+objects_stay : (number : ℕ) (after : Option Rattle.rl_ids.specs.declared.objects.ObjectId.ObjectId) (most : ℕ) → PageStays (calls.Chan number (ObjectPage after most))
+objects_stay number after most world s good =
+    let g : Grown world.channels (called (calls.Chan number (ObjectPage after most)) world).channels = grown_call (calls.Chan number (ObjectPage after most)) world in
+    let h : Serves (called (calls.Chan number (ObjectPage after most)) world).channels s = serves_grows world.channels (called (calls.Chan number (ObjectPage after most)) world).channels g s good in
+    absorbed_serves (called (calls.Chan number (ObjectPage after most)) world).channels s.ended (calls.Chan number (ObjectPage after most)) (reply_to (calls.Chan number (ObjectPage after most)) world) world.now s
+    (λ free. paged_by (called (calls.Chan number (ObjectPage after most)) world).channels number (last_place number world.channels) (reply_to (calls.Chan number (ObjectPage after most)) world) world.now s (omega arith) (g.low number) (actor.numbered number s.sessions) refl
+        (λ e same. low_at (called (calls.Chan number (ObjectPage after most)) world).channels number (last_place number world.channels) e (g.low number) same) h) h
+
+page_event : (members objects : Bool) (number : ℕ) (p : Sequences) (call : Call)
+    → option_map (λ (event : ChannelEvent). calls.Chan number event) (if not members then Some (MemberPage p.after_member PAGE_MEMBERS) else if not objects then Some (ObjectPage p.after_object PAGE_OBJECTS) else None) ≡ Some call → PageStays call
+page_event false objects number p call is = let same : calls.Chan number (MemberPage p.after_member PAGE_MEMBERS) ≡ call = cc in subst PageStays same (members_stay number p.after_member PAGE_MEMBERS)
+page_event true false number p call is = let same : calls.Chan number (ObjectPage p.after_object PAGE_OBJECTS) ≡ call = cc in subst PageStays same (objects_stay number p.after_object PAGE_OBJECTS)
+page_event true true number p call is = absurd (cc)
+
+page_of_one : (o : Option Session) (call : Call) → call_of page_of o ≡ Some call → PageStays call
+page_of_one None call is = absurd (cc)
+page_of_one (Some session) call is = page_event session.pages.members.done session.pages.objects.done session.number session.pages call is
+
+page_if : (free : Bool) (o : Option Session) (call : Call) → (if free then call_of page_of o else None) ≡ Some call → PageStays call
+page_if true o call is = page_of_one o call is
+page_if false o call is = absurd (cc)
+
+page_cut : (cut : Bool) (name : List ℕ) (s : actor.State) (call : Call) → unless_cut cut (page_call name s) ≡ Some call → PageStays call
+page_cut true name s call is = absurd (cc)
+page_cut false name s call is = page_if (actor.is_free s) (at name s.sessions) call is
+
+page_on : (name : List ℕ) (o : Option Transport) (call : Call) → call_on (page_call name) o ≡ Some call → PageStays call
+page_on name None call is = absurd (cc)
+page_on name (Some t) call is = page_cut t.cut name t.actor call is
+
+pages_of : (world : World) (k : ℕ) (name : List ℕ) (o : Option Call) → next_page k name world ≡ o → AreServing world → AreServing (performs_if k o world)
+pages_of world k name None is h = h
+pages_of world k name (Some call) is h =
+    performs_serving world k call (λ t found good. page_on name (slice_get world.transports k) call is world t.actor good) h
+
+pages_serving : (world : World) (k : ℕ) (name : List ℕ) → AreServing world → AreServing (pages k name world)
+pages_serving world k name h = pages_of world k name (next_page k name world) refl h
