@@ -319,3 +319,65 @@ pages_of world k name (Some call) is h =
 
 pages_serving : (world : World) (k : ℕ) (name : List ℕ) → AreServing world → AreServing (pages k name world)
 pages_serving world k name h = pages_of world k name (next_page k name world) refl h
+
+-- WHAT IS DONE TO THE SERVICE BESIDE
+
+takes_serving : (world : World) (number : ℕ) (event : ChannelEvent) → AreServing world → AreServing (with_event number event world)
+takes_serving world number event h = serving_grows world (with_event number event world) (grown_takes number event world.channels) refl h
+
+reaped_serving : (world : World) (queue : List (ℕ × ℕ)) → AreServing world → AreServing (reaped queue world)
+reaped_serving world [] h = h
+reaped_serving world (pair ∷ more) h = serving_grows world (with_event pair.1 (Gone pair.0 world.now) (record world { queue = more })) (grown_takes pair.1 (Gone pair.0 world.now) world.channels) refl h
+
+aged_serving : (world : World) (o : Option ℕ) → AreServing world → AreServing (event_at o (Tick world.now) world)
+aged_serving world None h = h
+aged_serving world (Some number) h = takes_serving world number (Tick world.now) h
+
+fed_serving : (world : World) (o : Option ℕ) (body : Body) → AreServing world → AreServing (fed_at o body world)
+fed_serving world None body h = h
+fed_serving world (Some number) body h = serving_grows world (fed_at (Some number) body world) (grown_takes number (Put feed_conn world.fed body world.now) world.channels) refl h
+
+served : IsServed AreServing
+served = record {
+  stepping = λ world k h. steps_serving world k h;
+  paging = λ world k channel h. pages_serving world k channel h;
+  polling = λ world k channel h. polls_serving world k channel h;
+  expiring = λ world h. h;
+  reaping = λ world h. reaped_serving world world.queue h;
+  ageing = λ world channel h. aged_serving world (number_of channel (names world)) h;
+  naming = λ world channel h. serving_grows world (with_name channel world) (grown_name channel world) (name_beside channel world).transports h;
+  feeding = λ world channel body h. fed_serving world (number_of channel (names world)) body h;
+}
+
+-- WHAT CLIENTS DO
+
+sent_serving : (channels : Channels) (list : List Frame) (cut : Bool) (t : Transport) → IsServing channels t → IsServing channels (put_unless cut list t)
+sent_serving channels list true t h = h
+sent_serving channels list false t h = record { of_actor = h.of_actor; flushed = h.flushed }
+
+new_serving : (channels : Channels) (name : List ℕ) (hello : Hello) (now : ℕ) → IsServing channels (new_transport name hello now)
+new_serving channels name hello now = record {
+  of_actor = record { numbers = tt; sessions = tt; once = tt; addressed = by_key hello.resume; over = λ why is. absurd (cc) };
+  flushed = refl;
+}
+  where
+    by_key : (o : Option (List ℕ)) → IsAddressed channels (actor.first_wish o)
+    by_key None = tt
+    by_key (Some key) = tt
+
+quiet : IsQuiet AreServing
+quiet = record {
+  of_client = λ world name change h. h;
+  of_new = λ world name h. h;
+  of_cut = λ world k h. changed_all (IsServing world.channels) k cut_off (λ t is. record { of_actor = is.of_actor; flushed = is.flushed }) world.transports h;
+  of_sent = λ world k list h. changed_all (IsServing world.channels) k (takes_frames list) (λ t is. sent_serving world.channels list t.cut t is) world.transports h;
+  of_got = λ world k frame is h. changed_all (IsServing world.channels) k gives_frame (λ t good. record { of_actor = good.of_actor; flushed = good.flushed }) world.transports h;
+  of_opened = λ world name hello h. all_append (IsServing world.channels) world.transports (new_transport name hello world.now ∷ []) h (new_serving world.channels name hello world.now, tt);
+  of_time = λ world span h. h;
+}
+
+-- EVERY RUN
+
+-- each actor of every run serves so
+pub actors_serve : ActorsServe
+actors_serve = runs_hold AreServing (each_keeps AreServing quiet served) tt
