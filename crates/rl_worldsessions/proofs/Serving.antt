@@ -1,6 +1,6 @@
 -- Each action keeps each actor's numbers and sessions those of their channels.
-use Rattle.std.proofs.Common.{◌≡◌, ℕ, ◌+◌, ◌≤◌, Bool, true, false, List, [], ◌∷◌, ◌++◌, length, take, drop, refl, sym, ◌∙◌, ap, subst, arith}
-use Rattle.std.specs.Prelude.{Option, Some, None, slice_get, if◌then◌else◌, option_map, is_some, nat_lt, ◌||◌, not, ⊤}
+use Rattle.std.proofs.Common.{◌≡◌, ℕ, ◌+◌, ◌≤◌, Bool, true, false, List, [], ◌∷◌, take, drop, refl, sym, ◌∙◌, ap, subst, arith}
+use Rattle.std.specs.Prelude.{Option, Some, None, slice_get, if◌then◌else◌, option_map, is_some, nat_lt, ◌||◌, not}
 use Rattle.std.specs.List.{AllByRecursion}
 use Rattle.std.proofs.lemmas.Bool.{eqb-true}
 use Rattle.rl_numbers.specs.declared.limits.TheConstants.{PAGE_MEMBERS, PAGE_OBJECTS, READ_ENTRIES}
@@ -23,7 +23,7 @@ use Rattle.rl_connbook.proofs.Each.{all_weaker, all_append}
 use Rattle.rl_directory.specs.Directory.{number_of}
 use Rattle.rl_names.specs.Names.{at}
 use Rattle.rl_pages.specs.State.{Sequences}
-use Rattle.rl_model.specs.Reply.{joined_place, read_reply}
+use Rattle.rl_model.specs.Reply.{joined_place}
 use Rattle.rl_model.specs.Verdict.{log, head}
 use Rattle.rl_model.specs.Window.{first}
 use Rattle.rl_actormodel.specs.declared.parts.Session.{Session}
@@ -43,7 +43,7 @@ use Rattle.rl_worldmodel.specs.World.{World, Transport, the_epoch, the_site, wit
 use Rattle.rl_worldmodel.specs.Calls.{with_name, reply_to, called, with_event}
 use Rattle.rl_worldmodel.specs.Clients.{cut_off, put_unless, takes_frames, gives_frame}
 use Rattle.rl_worldmodel.specs.Actors.{arrives, works, with_call, absorbs, performs, deed_by, deed_of, done, steps, takes_up, unless_cut, call_on, next_page, next_poll, performs_if, pages, polls}
-use Rattle.rl_worldmodel.specs.Services.{expires, reaped, reaps, event_at, ages, feed_conn, fed_at, feeds}
+use Rattle.rl_worldmodel.specs.Services.{reaped, event_at, feed_conn, fed_at}
 use Rattle.rl_worldtold.specs.Truth.{Channels}
 use Rattle.rl_worldtold.proofs.Shape.{all_at, changed_all, changed_one, changed_none, name_beside, works_actor}
 use Rattle.rl_worldtold.proofs.Quiet.{IsQuiet}
@@ -52,7 +52,7 @@ use Rattle.rl_worldsessions.specs.Serving.{HasNumber, last_place, IsSessionOf, I
 use Rattle.rl_worldsessions.proofs.Entries.{all_found}
 use Rattle.rl_worldsessions.proofs.Logs.{joined_low, take_low, drop_low}
 use Rattle.rl_worldsessions.proofs.Growth.{Grown, grown_same, grown_takes, grown_name, grown_call, ask_tells}
-use Rattle.rl_worldsessions.proofs.Actors.{serves_grows, over_serves, silent_serves, rested_serves, took_serves, replied_serves, Suits, IsBeginning, IsReadFor, read_serves, ArePaged, page_serves}
+use Rattle.rl_worldsessions.proofs.Actors.{serves_grows, over_serves, silent_serves, rested_serves, took_serves, replied_serves, Suits, IsReadFor, read_serves, ArePaged, page_serves}
 use Rattle.rl_worldsessions.proofs.Found.{number_found, all_find}
 
 -- ALL TRANSPORTS
