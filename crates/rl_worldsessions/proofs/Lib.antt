@@ -4,3 +4,4 @@ pub mod Growth
 pub mod Actors
 pub mod Found
 pub mod Serving
+pub mod Sessions
