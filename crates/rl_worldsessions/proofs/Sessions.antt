@@ -3,6 +3,7 @@ use Rattle.std.proofs.Common.{◌≡◌, ℕ, zero, suc, ◌+◌, ◌-◌, ◌<�
 use Rattle.std.specs.Prelude.{Option, Some, None, if◌then◌else◌, nat_lt, ◌||◌, min, bytes_eq}
 use Rattle.std.specs.List.{AllByRecursion}
 use Rattle.std.proofs.lemmas.Bool.{eqb-true}
+use Rattle.std.proofs.lemmas.List.{append-nil}
 use Rattle.std.proofs.lemmas.Bool.Decides.{nat_tests}
 use Rattle.rl_numbers.specs.declared.limits.TheConstants.{READ_ENTRIES}
 use Rattle.rl_types.specs.declared.frames.Frame.{Frame}
@@ -26,9 +27,9 @@ use Rattle.rl_worldmodel.specs.World.{World, Transport, the_site, history}
 use Rattle.rl_worldmodel.specs.Calls.{reply_to}
 use Rattle.rl_worldtold.proofs.Shape.{self_bytes}
 use Rattle.rl_worldtold.proofs.Runs.{runs_so}
-use Rattle.rl_worldsessions.specs.Logs.{LogsAreInPlace}
+use Rattle.rl_worldsessions.specs.Logs.{LogsAreInPlace, IsRun}
 use Rattle.rl_worldsessions.specs.Serving.{IsSessionOf, Serves, IsServing, AreServing}
-use Rattle.rl_worldsessions.specs.Sessions.{FindsByNumber, SessionsAreFoundByNumber, read_call, read_told, ReadsRuns, AllReadRuns, ReadsAreRuns}
+use Rattle.rl_worldsessions.specs.Sessions.{FindsByNumber, SessionsAreFoundByNumber, read_call, read_told, after_read, IsReadOn, IsLeftBehind, ReadsRuns, AllReadRuns, ReadsAreRuns}
 use Rattle.rl_worldsessions.proofs.Entries.{all_found, to_rising}
 use Rattle.rl_worldsessions.proofs.Found.{number_found}
 use Rattle.rl_worldsessions.proofs.Logs.{log_is, run_read}
@@ -92,9 +93,21 @@ left_behind position least last within is = by_tests (nat_lt (position + 1) leas
     by_tests false true one two is = absurd (grind (arith, nat_tests, two, within))
     by_tests false false one two is = absurd (cc)
 
+is_kept : (position least last : ℕ) → position ≤ last → least ≤ position + 1 → (nat_lt (position + 1) least || nat_lt last position) ≡ false
+is_kept position least last within kept = by_tests (nat_lt (position + 1) least) (nat_lt last position) refl refl
+  where
+    by_tests : (a b : Bool) → nat_lt (position + 1) least ≡ a → nat_lt last position ≡ b → (a || b) ≡ false
+    by_tests true b one two = absurd (grind (arith, nat_tests, one, kept))
+    by_tests false true one two = absurd (grind (arith, nat_tests, two, within))
+    by_tests false false one two = refl
+
 puts_sessions : (list : List Frame) (now : ℕ) (s : actor.State) → (puts list now s).sessions ≡ s.sessions
 puts_sessions [] now s = refl
 puts_sessions (frame ∷ more) now s = refl
+
+puts_waiting : (list : List Frame) (now : ℕ) (s : actor.State) → (puts list now s).waiting ≡ s.waiting ++ list
+puts_waiting [] now s = sym (append-nil s.waiting)
+puts_waiting (frame ∷ more) now s = refl
 
 at_own : (name : List ℕ) (session : Session) (es : List (List ℕ × Session)) → at name (with_entry name session es) ≡ Some session
 at_own name session es = at_with name name session es ∙ ap (λ (b : Bool). cond b (Some session) (at name es)) (self_bytes name)
@@ -104,10 +117,10 @@ module _ (world : World) (t : Transport) (h : IsServing world.channels t) (name 
   Past = history session.number world
 
   abbrev IsBehind : Bool
-  IsBehind = nat_lt (session.position + 1) (first the_site (history session.number world)) || nat_lt (head the_site (history session.number world)) session.position
+  IsBehind = nat_lt (session.position + 1) (first the_site Past) || nat_lt (head the_site Past) session.position
 
   abbrev Given : List Entry
-  Given = take READ_ENTRIES (drop session.position (log the_site (history session.number world)))
+  Given = take READ_ENTRIES (drop session.position (log the_site Past))
 
   own : IsSessionOf world.channels (name, session)
   own = all_found (IsSessionOf world.channels) name session t.actor.sessions h.of_actor.sessions stands
@@ -115,27 +128,52 @@ module _ (world : World) (t : Transport) (h : IsServing world.channels t) (name 
   given_is : (list : List Entry) → read_told session world ≡ Came list → Given ≡ list
   given_is list is = came_is IsBehind (first the_site Past) Given list is
 
-  moves_on : (list : List Entry) → read_told session world ≡ Came list → t.actor.ended ≡ None
-      → at name (absorbed (read_call session) (reply_to (read_call session) world) world.now t.actor).sessions ≡ Some (ended_here (moved_on (length list) session))
-  moves_on list is free =
-      ap (λ o. at name (answered_at o (read_call session) (reply_to (read_call session) world) world.now t.actor).sessions) free
-      ∙ ap (λ o. at name (on_session (λ n one. read_by n one (reading (reply_to (read_call session) world)) world.now) o t.actor).sessions)
+  -- what the answer makes of the actor
+  reads_so : (r : Reading) → read_told session world ≡ r → t.actor.ended ≡ None → after_read session world t.actor ≡ read_by name session r world.now t.actor
+  reads_so r is free =
+      ap (λ o. answered_at o (read_call session) (reply_to (read_call session) world) world.now t.actor) free
+      ∙ ap (λ o. on_session (λ n one. read_by n one (reading (reply_to (read_call session) world)) world.now) o t.actor)
           (number_found world.channels name session t.actor.sessions h.of_actor.sessions own.numbered stands)
-      ∙ ap (λ r. at name (read_by name session r world.now t.actor).sessions) is
-      ∙ ap (at name) (puts_sessions (map (entry_frame name session.epoch) list ++ ends_here (moved_on (length list) session)) world.now (record t.actor { sessions = with_entry name (ended_here (moved_on (length list) session)) t.actor.sessions }))
-      ∙ at_own name (ended_here (moved_on (length list) session)) t.actor.sessions
+      ∙ ap (λ (x : Reading). read_by name session x world.now t.actor) is
 
-  reads_runs : ReadsRuns world t.actor name session
-  reads_runs = record {
-    runs = λ list is. subst (Rattle.rl_worldsessions.specs.Logs.IsRun the_site Past session.position) (given_is list is) (run_read the_site Past READ_ENTRIES session.position (drop session.position (log the_site Past)) refl);
-    many = λ list is.
+  abbrev Frames : List Entry → List Frame
+  Frames list = map (entry_frame name session.epoch) list ++ ends_here (moved_on (length list) session)
+
+  abbrev Moved : List Entry → actor.State
+  Moved list = record t.actor { sessions = with_entry name (ended_here (moved_on (length list) session)) t.actor.sessions }
+
+  reads_on : (list : List Entry) → read_told session world ≡ Came list → IsReadOn world t.actor name session list
+  reads_on list is = record {
+    run = subst (IsRun the_site Past session.position) (given_is list is) (run_read the_site Past READ_ENTRIES session.position (drop session.position (log the_site Past)) refl);
+    many =
         ap (λ (es : List Entry). length es) (sym (given_is list is))
         ∙ take_length READ_ENTRIES (drop session.position (log the_site Past))
         ∙ ap (λ (n : ℕ). min READ_ENTRIES n) (drop_length session.position (log the_site Past));
-    moves = moves_on;
-    behind = λ place is.
-        let b = behind_is IsBehind (first the_site Past) place Given is in
-        (sym b.1, subst (λ (n : ℕ). session.position + 1 < n) b.1 (left_behind session.position (first the_site Past) (head the_site Past) own.within b.0));
+    moves = λ free.
+        ap (λ (s : actor.State). at name s.sessions) (reads_so (Came list) is free)
+        ∙ ap (at name) (puts_sessions (Frames list) world.now (Moved list))
+        ∙ at_own name (ended_here (moved_on (length list) session)) t.actor.sessions;
+    shows = λ free.
+        ap (λ (s : actor.State). s.waiting) (reads_so (Came list) is free)
+        ∙ puts_waiting (Frames list) world.now (Moved list)
+        ∙ ap (λ (fs : List Frame). fs ++ Frames list) h.flushed
+        ∙ ap (λ (n : ℕ). map (entry_frame name n) list ++ ends_here (moved_on (length list) session)) own.of_run;
+  }
+
+  left_so : (place : ℕ) → read_told session world ≡ Behind place → IsLeftBehind world t.actor session place
+  left_so place is =
+      let b = behind_is IsBehind (first the_site Past) place Given is in
+      record {
+        least = sym b.1;
+        left = subst (λ (n : ℕ). session.position + 1 < n) b.1 (left_behind session.position (first the_site Past) (head the_site Past) own.within b.0);
+        ends = λ free. ap (λ (s : actor.State). s.ended) (reads_so (Behind place) is free);
+      }
+
+  reads_runs : ReadsRuns world t.actor name session
+  reads_runs = record {
+    came = reads_on;
+    behind = left_so;
+    comes = λ kept. (Given, ap (λ (b : Bool). Says b (first the_site Past) Given) (is_kept session.position (first the_site Past) (head the_site Past) own.within kept));
     said = λ is. never_unread IsBehind (first the_site Past) Given is;
   }
 
