@@ -37,12 +37,15 @@ one_name p q n (c ∷ names) a b = one_by p q c (bytes_eq p c) (bytes_eq q c) (n
 
 -- SESSIONS
 
+both_are : (e : List ℕ × Session) (name : List ℕ) (session : Session) → name ≡ e.0 → e.1 ≡ session → Some e ≡ Some (name, session)
+both_are e name session key same = ap (λ (n : List ℕ). Some (n, e.1)) (sym key) ∙ ap (λ (s : Session). Some (name, s)) same
+
 number_by : (channels : Channels) (name : List ℕ) (session : Session) (e : List ℕ × Session) (es : List (List ℕ × Session)) (b c : Bool) → is_at (slice_cmp nat_cmp name) e.0 ≡ b → has_number session.number e ≡ c → HasNumber channels e.0 e.1.number → HasNumber channels name session.number
     → (at name es ≡ Some session → find (has_number session.number) es ≡ Some (name, session)) → cond b (Some e.1) (at name es) ≡ Some session → cond c (Some e) (find (has_number session.number) es) ≡ Some (name, session)
 number_by channels name session e es true true is has own number more found =
     let same : e.1 ≡ session = cc in
     let key : name ≡ e.0 = same_bytes name e.0 (sym (is_eq-slice_cmp name e.0) ∙ is) in
-    ap (λ (n : List ℕ). Some (n, e.1)) (sym key) ∙ ap (λ (s : Session). Some (name, s)) same
+    both_are e name session key same
 number_by channels name session e es true false is has own number more found =
     let same : e.1 ≡ session = cc in
     let wrong : true ≡ false = sym (eq-eqb e.1.number session.number (ap (λ (s : Session). s.number) same)) ∙ has in

@@ -48,7 +48,6 @@ by_rules false false next is = refl
 
 adds_below : (at : Setting) (before : List Decision) (conn serial : ℕ) (body : Body) → judged at before conn serial body ≡ Adds → (length (entries before) == MAX_PLACE) ≡ false
 adds_below at before conn serial body is =
-    let last : Judgement = fails_or (limit_rule (told before) conn body) (fails_or (object_rule at (entries before) body) Adds) in
     by_rules (nat_lt MAX_MESSAGE_SIZE (body_weight body) || has_long body) (length (entries before) == MAX_PLACE) (fails_or (own_rule body) (fails_or (limit_rule (told before) conn body) (fails_or (object_rule at (entries before) body) Adds)))
     (from_id (remembered_of body before) (judged_by_rules (length (entries before)) body (fails_or (limit_rule (told before) conn body) (fails_or (object_rule at (entries before) body) Adds)))
     (from_serial serial (kept conn before) (judged_by_id (remembered_of body before) (judged_by_rules (length (entries before)) body (fails_or (limit_rule (told before) conn body) (fails_or (object_rule at (entries before) body) Adds)))) is))

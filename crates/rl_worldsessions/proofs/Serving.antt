@@ -4,6 +4,8 @@ use Rattle.std.specs.Prelude.{Option, Some, None, slice_get, if◌then◌else◌
 use Rattle.std.specs.List.{AllByRecursion}
 use Rattle.std.proofs.lemmas.Bool.{eqb-true}
 use Rattle.rl_numbers.specs.declared.limits.TheConstants.{PAGE_MEMBERS, PAGE_OBJECTS, READ_ENTRIES}
+use Rattle.rl_ids.specs.declared.members.MemberKey.{MemberKey}
+use Rattle.rl_ids.specs.declared.objects.ObjectId.{ObjectId}
 use Rattle.rl_types.specs.declared.frames.Frame.{Frame}
 use Rattle.rl_types.specs.declared.messages.Body.{Body}
 use Rattle.rl_runs.specs.declared.commands.Hello.{Hello}
@@ -49,6 +51,7 @@ use Rattle.rl_worldtold.proofs.Shape.{all_at, changed_all, changed_one, changed_
 use Rattle.rl_worldtold.proofs.Quiet.{IsQuiet}
 use Rattle.rl_worldtold.proofs.Runs.{runs_hold, IsServed, each_keeps}
 use Rattle.rl_worldsessions.specs.Serving.{HasNumber, last_place, IsSessionOf, IsAddressed, Serves, IsServing, AreServing, ActorsServe}
+use Rattle.rl_worldsessions.specs.Sessions.{read_call}
 use Rattle.rl_worldsessions.proofs.Entries.{all_found}
 use Rattle.rl_worldsessions.proofs.Logs.{joined_low, take_low, drop_low}
 use Rattle.rl_worldsessions.proofs.Growth.{Grown, grown_same, grown_takes, grown_name, grown_call, ask_tells}
@@ -154,13 +157,15 @@ wish_answers (wishes.AskToPut p holder) hello now call is = let same : calls.Dir
 wish_answers (wishes.Put p holder number) hello now call is = let same : calls.Chan number (Put holder.conn p.serial p.body now) ≡ call = cc in subst IsAnswered same (λ reply m s. refl)
 wish_answers (wishes.Finish p holder outcome) hello now call is = let same : calls.Book (events.End holder.conn holder.generation p.serial outcome) ≡ call = cc in subst IsAnswered same (λ reply m s. refl)
 
-wanted_serves : (world : World) (call : Call) (s : actor.State) → wanted s.wish s.hello world.now ≡ Some call → Serves world.channels s → Serves (called call world).channels (absorbed call (reply_to call world) world.now s)
-wanted_serves world call s wants good =
-    let h = serves_grows world.channels (called call world).channels (grown_call call world) s good in
+wanted_by : (world : World) (call : Call) (s : actor.State) → wanted s.wish s.hello world.now ≡ Some call → Serves (called call world).channels s → Serves (called call world).channels (absorbed call (reply_to call world) world.now s)
+wanted_by world call s wants h =
     absorbed_serves (called call world).channels s.ended call (reply_to call world) world.now s
     (λ free. subst (Serves (called call world).channels) (sym (wish_answers s.wish s.hello world.now call wants (reply_to call world) world.now s))
-        (replied_serves (called call world).channels s free (serves_grows world.channels (called call world).channels (grown_call call world) s good) s.wish (reply_to call world) world.now
-        (suits world s free s.wish call refl wants (serves_grows world.channels (called call world).channels (grown_call call world) s good)))) h
+        (replied_serves (called call world).channels s free h s.wish (reply_to call world) world.now (suits world s free s.wish call refl wants h))) h
+
+wanted_serves : (world : World) (call : Call) (s : actor.State) → wanted s.wish s.hello world.now ≡ Some call → Serves world.channels s → Serves (called call world).channels (absorbed call (reply_to call world) world.now s)
+wanted_serves world call s wants good =
+    wanted_by world call s wants (serves_grows world.channels (called call world).channels (grown_call call world) s good)
 
 -- ONE STEP
 
@@ -204,9 +209,6 @@ steps_serving world k h = steps_of world k (slice_get world.transports k) refl h
 
 -- READS
 
-abbrev read_call : Session → Call
-read_call session = calls.Chan session.number (Read session.position READ_ENTRIES)
-
 read_fits : (channels : Channels) (session : Session) (past : List ChannelEvent) (behind : Bool) → session.position ≤ head the_site past → head the_site past ≤ last_place session.number channels
     → IsReadFor channels session (reading (replies.Chan (answers.Read (if behind then NotRetained (first the_site past) else Run (take READ_ENTRIES (drop session.position (log the_site past)))))))
 read_fits channels session past true within low = tt
@@ -216,7 +218,6 @@ read_fits channels session past false within low =
 read_absorbed : (world : World) (name : List ℕ) (session : Session) (s : actor.State) → at name s.sessions ≡ Some session → Serves world.channels s
     → Serves (called (read_call session) world).channels (absorbed (read_call session) (reply_to (read_call session) world) world.now s)
 read_absorbed world name session s found good =
-    let after : Channels = (called (read_call session) world).channels in
     let g : Grown world.channels (called (read_call session) world).channels = grown_call (read_call session) world in
     let own : IsSessionOf world.channels (name, session) = all_found (IsSessionOf world.channels) name session s.sessions good.sessions found in
     let h : Serves (called (read_call session) world).channels s = serves_grows world.channels (called (read_call session) world).channels g s good in
@@ -272,17 +273,15 @@ paged_by channels number last reply now s paged low (Some e) is fits h =
 low_at : (channels : Channels) (number last : ℕ) (e : List ℕ × Session) → last ≤ last_place number channels → e.1.number ≡ number → last ≤ last_place e.1.number channels
 low_at channels number last e low same = subst (λ (n : ℕ). last ≤ last_place n channels) (sym same) low
 
-members_stay : (number : ℕ) (after : Option Rattle.rl_ids.specs.declared.members.MemberKey.MemberKey) (most : ℕ) → PageStays (calls.Chan number (MemberPage after most))
+members_stay : (number : ℕ) (after : Option MemberKey) (most : ℕ) → PageStays (calls.Chan number (MemberPage after most))
 members_stay number after most world s good =
-    let call : Call = calls.Chan number (MemberPage after most) in
     let g : Grown world.channels (called (calls.Chan number (MemberPage after most)) world).channels = grown_call (calls.Chan number (MemberPage after most)) world in
-    let channels : Channels = (called (calls.Chan number (MemberPage after most)) world).channels in
     let h : Serves (called (calls.Chan number (MemberPage after most)) world).channels s = serves_grows world.channels (called (calls.Chan number (MemberPage after most)) world).channels g s good in
     absorbed_serves (called (calls.Chan number (MemberPage after most)) world).channels s.ended (calls.Chan number (MemberPage after most)) (reply_to (calls.Chan number (MemberPage after most)) world) world.now s
     (λ free. paged_by (called (calls.Chan number (MemberPage after most)) world).channels number (last_place number world.channels) (reply_to (calls.Chan number (MemberPage after most)) world) world.now s (omega arith) (g.low number) (actor.numbered number s.sessions) refl
         (λ e same. low_at (called (calls.Chan number (MemberPage after most)) world).channels number (last_place number world.channels) e (g.low number) same) h) h
 
-objects_stay : (number : ℕ) (after : Option Rattle.rl_ids.specs.declared.objects.ObjectId.ObjectId) (most : ℕ) → PageStays (calls.Chan number (ObjectPage after most))
+objects_stay : (number : ℕ) (after : Option ObjectId) (most : ℕ) → PageStays (calls.Chan number (ObjectPage after most))
 objects_stay number after most world s good =
     let g : Grown world.channels (called (calls.Chan number (ObjectPage after most)) world).channels = grown_call (calls.Chan number (ObjectPage after most)) world in
     let h : Serves (called (calls.Chan number (ObjectPage after most)) world).channels s = serves_grows world.channels (called (calls.Chan number (ObjectPage after most)) world).channels g s good in

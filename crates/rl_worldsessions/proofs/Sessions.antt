@@ -1,6 +1,6 @@
 -- What follows for sessions: by what they are found, and what their reads give.
 use Rattle.std.proofs.Common.{◌≡◌, ℕ, zero, suc, ◌+◌, ◌-◌, ◌<◌, ◌≤◌, Bool, true, false, cond, List, [], ◌∷◌, ◌++◌, length, map, take, drop, refl, sym, ◌∙◌, ap, subst, arith}
-use Rattle.std.specs.Prelude.{Option, Some, None, if◌then◌else◌, nat_lt, ◌||◌, min, bytes_eq}
+use Rattle.std.specs.Prelude.{Some, None, if◌then◌else◌, nat_lt, ◌||◌, min}
 use Rattle.std.specs.List.{AllByRecursion}
 use Rattle.std.proofs.lemmas.Bool.{eqb-true}
 use Rattle.std.proofs.lemmas.List.{append-nil}
@@ -21,14 +21,14 @@ use Rattle.rl_actormodel.specs.State as actor
 use Rattle.rl_actormodel.specs.State.{puts}
 use Rattle.rl_actormodel.specs.Replies.{Reading, Came, Behind, Unread, reading}
 use Rattle.rl_actormodel.specs.Pagings.{ends_here, ended_here}
-use Rattle.rl_actormodel.specs.Reads.{absorbed, answered_at, on_session, read_by, moved_on, entry_frame}
+use Rattle.rl_actormodel.specs.Reads.{answered_at, on_session, read_by, moved_on, entry_frame}
 use Rattle.rl_actormodel.proofs.Named.{at_with, found_at, found_passes}
 use Rattle.rl_worldmodel.specs.World.{World, Transport, the_site, history}
 use Rattle.rl_worldmodel.specs.Calls.{reply_to}
 use Rattle.rl_worldtold.proofs.Shape.{self_bytes}
 use Rattle.rl_worldtold.proofs.Runs.{runs_so}
 use Rattle.rl_worldsessions.specs.Logs.{LogsAreInPlace, IsRun}
-use Rattle.rl_worldsessions.specs.Serving.{IsSessionOf, Serves, IsServing, AreServing}
+use Rattle.rl_worldsessions.specs.Serving.{IsSessionOf, IsServing, AreServing}
 use Rattle.rl_worldsessions.specs.Sessions.{FindsByNumber, SessionsAreFoundByNumber, read_call, read_told, after_read, IsReadOn, IsLeftBehind, ReadsRuns, AllReadRuns, ReadsAreRuns}
 use Rattle.rl_worldsessions.proofs.Entries.{all_found, to_rising}
 use Rattle.rl_worldsessions.proofs.Found.{number_found}
