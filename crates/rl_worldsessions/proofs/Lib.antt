@@ -5,3 +5,4 @@ pub mod Actors
 pub mod Found
 pub mod Serving
 pub mod Sessions
+pub mod Paging

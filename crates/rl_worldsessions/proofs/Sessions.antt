@@ -101,15 +101,15 @@ is_kept position least last within kept = by_tests (nat_lt (position + 1) least)
     by_tests false true one two = absurd (grind (arith, nat_tests, two, within))
     by_tests false false one two = refl
 
-puts_sessions : (list : List Frame) (now : ℕ) (s : actor.State) → (puts list now s).sessions ≡ s.sessions
+pub puts_sessions : (list : List Frame) (now : ℕ) (s : actor.State) → (puts list now s).sessions ≡ s.sessions
 puts_sessions [] now s = refl
 puts_sessions (frame ∷ more) now s = refl
 
-puts_waiting : (list : List Frame) (now : ℕ) (s : actor.State) → (puts list now s).waiting ≡ s.waiting ++ list
+pub puts_waiting : (list : List Frame) (now : ℕ) (s : actor.State) → (puts list now s).waiting ≡ s.waiting ++ list
 puts_waiting [] now s = sym (append-nil s.waiting)
 puts_waiting (frame ∷ more) now s = refl
 
-at_own : (name : List ℕ) (session : Session) (es : List (List ℕ × Session)) → at name (with_entry name session es) ≡ Some session
+pub at_own : (name : List ℕ) (session : Session) (es : List (List ℕ × Session)) → at name (with_entry name session es) ≡ Some session
 at_own name session es = at_with name name session es ∙ ap (λ (b : Bool). cond b (Some session) (at name es)) (self_bytes name)
 
 module _ (world : World) (t : Transport) (h : IsServing world.channels t) (name : List ℕ) (session : Session) (stands : at name t.actor.sessions ≡ Some session) where

@@ -2,6 +2,7 @@
 ghost use Rattle.rl_worldsessions.specs.Logs.{LogsAreInPlace};
 ghost use Rattle.rl_worldsessions.specs.Serving.{ActorsServe};
 ghost use Rattle.rl_worldsessions.specs.Sessions.{SessionsAreFoundByNumber, ReadsAreRuns};
+ghost use Rattle.rl_worldsessions.specs.Paged.{PagesAreTheirChannels};
 
 /// The entries of every channel's log stand at the places 1, 2, .., and none is past the last place that there is.
 pub fn logs_are_in_place()
@@ -21,9 +22,17 @@ pub fn sessions_are_found_by_number()
     ensures { SessionsAreFoundByNumber }
 {}
 
-/// What a read of a session gives are the entries of its channel's log that follow the session's position, and it then stands
-/// at the last of them; nothing is given only where the window has moved past them.
+/// What a read of a session gives are the entries of its channel's log that follow the session's position: each is put out as
+/// one frame, and the session then stands at the last of them. None are given exactly where the window has moved past them,
+/// and the actor then ends (RTL7).
 #[tactic(auto, using(crate::proofs::Sessions::reads_are_runs))]
 pub fn reads_are_runs()
     ensures { ReadsAreRuns }
+{}
+
+/// Each page that a session asks for is its own channel's answer, of the kind that was asked for: this session absorbs it, and
+/// it is put out as one frame (RTP18a, RTO5a).
+#[tactic(auto, using(crate::proofs::Paging::pages_are_their_channels))]
+pub fn pages_are_their_channels()
+    ensures { PagesAreTheirChannels }
 {}
