@@ -1,0 +1,4 @@
+pub mod Logs
+pub mod Serving
+pub mod Sessions
+pub mod Paged
