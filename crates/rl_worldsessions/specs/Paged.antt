@@ -33,8 +33,8 @@ pub record IsPagedBy (world : World) (s : actor.State) (name : List ℕ) (sessio
 abbrev pub AllPaged : World → Type 0
 AllPaged world =
     AllByRecursion
-        (λ (t : Transport). (name : List ℕ) (session : Session) (event : ChannelEvent) → at name t.actor.sessions ≡ Some session → next_event session.pages ≡ Some event → IsPagedBy world t.actor name session event)
-        world.transports
+    (λ (t : Transport). (name : List ℕ) (session : Session) (event : ChannelEvent) → at name t.actor.sessions ≡ Some session → next_event session.pages ≡ Some event → IsPagedBy world t.actor name session event)
+    world.transports
 
 -- so each page of each session of every run
 abbrev pub PagesAreTheirChannels : Type 0
