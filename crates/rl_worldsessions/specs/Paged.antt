@@ -30,6 +30,7 @@ pub record IsPagedBy (world : World) (s : actor.State) (name : List ℕ) (sessio
   pub absorbs : s.ended ≡ None → at name (after_page event session world s).sessions ≡ Some (paged (page_absorbed (page_told event session world) session.pages) session)
   pub shows : s.ended ≡ None → (after_page event session world s).waiting ≡ option_to_list (page_frame (page_told event session world) session.pages)
 
+-- each session of each actor that asks for a page is paged so
 abbrev pub AllPaged : World → Type 0
 AllPaged world =
     AllByRecursion
