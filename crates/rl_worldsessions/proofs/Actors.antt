@@ -185,7 +185,7 @@ module _ (channels : Channels) where
   absorbed_pages (channel.Objects states end head) name last p low h = record { named = h.named; members = h.members; objects = highest p.objects.head head last h.objects low }
   absorbed_pages reply name last p low h = h
 
-  -- so does a reply, where it is one
+  -- so does what came, where it is a reply of a channel
   abbrev pub ArePaged : ℕ → Option ChannelReply → Type 0
   ArePaged last None = ⊤
   ArePaged last (Some reply) = IsPageFor last reply

@@ -31,7 +31,7 @@ one_by p q c false false o r n is other more a b =
     let same : u.0 ≡ s.0 = omega (arith, s.1, u.1) in
     more s.0 s.2 (u.2 ∙ ap (λ (m : ℕ). Some m) same)
 
-one_name : (p q : List ℕ) (n : ℕ) (names : List (List ℕ)) → number_of p names ≡ Some n → number_of q names ≡ Some n → p ≡ q
+pub one_name : (p q : List ℕ) (n : ℕ) (names : List (List ℕ)) → number_of p names ≡ Some n → number_of q names ≡ Some n → p ≡ q
 one_name p q n [] a b = absurd (cc)
 one_name p q n (c ∷ names) a b = one_by p q c (bytes_eq p c) (bytes_eq q c) (number_of p names) (number_of q names) n refl refl (λ m x y. one_name p q m names x y) a b
 

@@ -18,6 +18,7 @@ use Rattle.rl_worldtold.proofs.Shape.{map_changed, self_bytes}
 use Rattle.rl_worldsessions.specs.Serving.{HasNumber, last_place}
 use Rattle.rl_worldsessions.proofs.Logs.{head_grows}
 
+-- each number stays, and no log gets shorter
 pub record Grown (before after : Channels) : Type 0 where
   pub has : (name : List ℕ) (number : ℕ) → HasNumber before name number → HasNumber after name number
   pub low : (number : ℕ) → last_place number before ≤ last_place number after

@@ -96,9 +96,10 @@ pub log_is : (site : List ℕ) (past : List ChannelEvent) → ArePlaced 0 (log s
 log_is site [] = (tt, omega arith)
 log_is site (event ∷ past) =
     let before = log_is site past in
-    let new = decided_new (setting site (event ∷ past)) (decisions site past) event in
-    (placed_more (log site past) 0 (decided (setting site (event ∷ past)) (decisions site past) event).entry before.0 (λ e is. omega (arith, (new e is).0)),
-    length_more (log site past) (decided (setting site (event ∷ past)) (decisions site past) event).entry before.1 new)
+    let new = decided_new (setting site (event ∷ past)) (decisions site past) event in (
+      placed_more (log site past) 0 (decided (setting site (event ∷ past)) (decisions site past) event).entry before.0 (λ e is. omega (arith, (new e is).0)),
+      length_more (log site past) (decided (setting site (event ∷ past)) (decisions site past) event).entry before.1 new,
+    )
 
 pub head_grows : (site : List ℕ) (event : ChannelEvent) (past : List ChannelEvent) → head site past ≤ head site (event ∷ past)
 head_grows site event past = omega (arith, length-append (log site past) (option_to_list (decided (setting site (event ∷ past)) (decisions site past) event).entry))

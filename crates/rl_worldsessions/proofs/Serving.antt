@@ -90,7 +90,7 @@ works_serving channels act t h = record {
 
 -- A CALL IS PERFORMED
 
-called_transports : (call : Call) (world : World) → (called call world).transports ≡ world.transports
+pub called_transports : (call : Call) (world : World) → (called call world).transports ≡ world.transports
 called_transports (calls.Book event) world = refl
 called_transports (calls.Dir (Ask name)) world = (name_beside name world).transports
 called_transports (calls.Dir Names) world = refl
@@ -124,13 +124,14 @@ suits world s free (wishes.AskToPut p holder) call is wants h =
     let same : calls.Dir (Ask p.channel) ≡ call = cc in
     subst (λ (c : Call). (n : ℕ) → numbering (reply_to c world) ≡ Has n → HasNumber (called c world).channels p.channel n) same (λ n told. ask_tells p.channel n world told)
 suits world s free (wishes.Join asked number) call is wants h =
-    let same : calls.Chan number (Join asked.serial) ≡ call = cc in
-    (subst (IsAddressed (called call world).channels) is h.addressed,
-    subst (λ (c : Call). (j : Joining) → joining_in (reply_to c world) ≡ Some j → (j.serial.place ≤ last_place number (called c world).channels) × (j.serial.epoch ≡ the_epoch)) same
-    (λ j told.
-        let place : joined_place the_epoch the_site (history number world) asked.serial ≡ j.serial.place = ap place_told told in
-        let of_run : the_epoch ≡ j.serial.epoch = ap epoch_told told in
-        (omega (arith, joined_low the_epoch the_site (history number world) asked.serial, place, (grown_takes number (Join asked.serial) world.channels).low number), sym of_run)))
+    let same : calls.Chan number (Join asked.serial) ≡ call = cc in (
+      subst (IsAddressed (called call world).channels) is h.addressed,
+      subst (λ (c : Call). (j : Joining) → joining_in (reply_to c world) ≡ Some j → (j.serial.place ≤ last_place number (called c world).channels) × (j.serial.epoch ≡ the_epoch)) same
+          (λ j told.
+          let place : joined_place the_epoch the_site (history number world) asked.serial ≡ j.serial.place = ap place_told told in
+          let of_run : the_epoch ≡ j.serial.epoch = ap epoch_told told in
+          (omega (arith, joined_low the_epoch the_site (history number world) asked.serial, place, (grown_takes number (Join asked.serial) world.channels).low number), sym of_run)),
+    )
 suits world s free wishes.Nothing call is wants h = tt
 suits world s free (wishes.Resume key) call is wants h = tt
 suits world s free wishes.Open call is wants h = tt
@@ -161,7 +162,7 @@ wanted_by : (world : World) (call : Call) (s : actor.State) → wanted s.wish s.
 wanted_by world call s wants h =
     absorbed_serves (called call world).channels s.ended call (reply_to call world) world.now s
     (λ free. subst (Serves (called call world).channels) (sym (wish_answers s.wish s.hello world.now call wants (reply_to call world) world.now s))
-        (replied_serves (called call world).channels s free h s.wish (reply_to call world) world.now (suits world s free s.wish call refl wants h))) h
+    (replied_serves (called call world).channels s free h s.wish (reply_to call world) world.now (suits world s free s.wish call refl wants h))) h
 
 wanted_serves : (world : World) (call : Call) (s : actor.State) → wanted s.wish s.hello world.now ≡ Some call → Serves world.channels s → Serves (called call world).channels (absorbed call (reply_to call world) world.now s)
 wanted_serves world call s wants good =
@@ -174,9 +175,9 @@ serving_by : (world : World) (k : ℕ) (t : Transport) (f : Transport → Transp
 serving_by world k t f found step h =
     serving_on world world k f (grown_same world.channels) refl
     (λ u is good.
-        let both : Some t ≡ Some u = sym found ∙ is in
-        let one : t ≡ u = cc in
-        subst (λ (v : Transport). IsServing world.channels (f v)) one (step (subst (λ (v : Transport). Serves world.channels v.actor) (sym one) good))) h
+    let both : Some t ≡ Some u = sym found ∙ is in
+    let one : t ≡ u = cc in
+    subst (λ (v : Transport). IsServing world.channels (f v)) one (step (subst (λ (v : Transport). Serves world.channels v.actor) (sym one) good))) h
 
 not_ended : (o : Option End) → is_some o ≡ false → o ≡ None
 not_ended None is = refl
@@ -186,10 +187,10 @@ steps_by : (world : World) (k : ℕ) (t : Transport) (o : Option Call) (ended cu
     → AreServing (done k (deed_by o ended cut next rests) world)
 steps_by world k t (Some call) ended cut next rests found is ends_ h =
     performs_serving world k call (λ u there good.
-        let both : Some t ≡ Some u = sym found ∙ there in
-        let one : t ≡ u = cc in
-        subst (λ (v : Transport). Serves (called call world).channels (absorbed call (reply_to call world) world.now v.actor)) one
-        (wanted_serves world call t.actor is (subst (λ (v : Transport). Serves world.channels v.actor) (sym one) good))) h
+    let both : Some t ≡ Some u = sym found ∙ there in
+    let one : t ≡ u = cc in
+    subst (λ (v : Transport). Serves (called call world).channels (absorbed call (reply_to call world) world.now v.actor)) one
+    (wanted_serves world call t.actor is (subst (λ (v : Transport). Serves world.channels v.actor) (sym one) good))) h
 steps_by world k t None true cut next rests found is ends_ h = h
 steps_by world k t None false true next rests found is ends_ h =
     serving_by world k t (works (over ends.LinkEnded)) found (λ good. works_serving world.channels (over ends.LinkEnded) t (over_serves world.channels ends.LinkEnded t.actor.ended t.actor good)) h
@@ -224,9 +225,9 @@ read_absorbed world name session s found good =
     let later : IsSessionOf (called (read_call session) world).channels (name, session) = all_found (IsSessionOf (called (read_call session) world).channels) name session s.sessions h.sessions found in
     absorbed_serves (called (read_call session) world).channels s.ended (read_call session) (reply_to (read_call session) world) world.now s
     (λ free. subst (λ (o : Option (List ℕ × Session)). Serves (called (read_call session) world).channels (on_session (λ n one. read_by n one (reading (reply_to (read_call session) world)) world.now) o s))
-        (sym (number_found world.channels name session s.sessions good.sessions own.numbered found))
-        (read_serves (called (read_call session) world).channels name session (reading (reply_to (read_call session) world)) world.now s later
-        (read_fits (called (read_call session) world).channels session (history session.number world) (nat_lt (session.position + 1) (first the_site (history session.number world)) || nat_lt (head the_site (history session.number world)) session.position) own.within (g.low session.number)) h)) h
+    (sym (number_found world.channels name session s.sessions good.sessions own.numbered found))
+    (read_serves (called (read_call session) world).channels name session (reading (reply_to (read_call session) world)) world.now s later
+    (read_fits (called (read_call session) world).channels session (history session.number world) (nat_lt (session.position + 1) (first the_site (history session.number world)) || nat_lt (head the_site (history session.number world)) session.position) own.within (g.low session.number)) h)) h
 
 poll_by : (world : World) (k : ℕ) (t : Transport) (name : List ℕ) (call : Call) (free : Bool) (o : Option Session) → slice_get world.transports k ≡ Some t → at name t.actor.sessions ≡ o
     → (if free then call_of read_of o else None) ≡ Some call → AreServing world → AreServing (performs k call world)
@@ -236,10 +237,10 @@ poll_by world k t name call true (Some session) found is wants h =
     let same : calls.Chan session.number (Read session.position READ_ENTRIES) ≡ call = cc in
     subst (λ (c : Call). AreServing (performs k c world)) same
     (performs_serving world k (read_call session) (λ u there good.
-        let both : Some t ≡ Some u = sym found ∙ there in
-        let one : t ≡ u = cc in
-        subst (λ (v : Transport). Serves (called (read_call session) world).channels (absorbed (read_call session) (reply_to (read_call session) world) world.now v.actor)) one
-        (read_absorbed world name session t.actor is (subst (λ (v : Transport). Serves world.channels v.actor) (sym one) good))) h)
+    let both : Some t ≡ Some u = sym found ∙ there in
+    let one : t ≡ u = cc in
+    subst (λ (v : Transport). Serves (called (read_call session) world).channels (absorbed (read_call session) (reply_to (read_call session) world) world.now v.actor)) one
+    (read_absorbed world name session t.actor is (subst (λ (v : Transport). Serves world.channels v.actor) (sym one) good))) h)
 
 poll_cut : (world : World) (k : ℕ) (t : Transport) (name : List ℕ) (call : Call) (cut : Bool) → slice_get world.transports k ≡ Some t → unless_cut cut (poll_call name t.actor) ≡ Some call → AreServing world → AreServing (performs k call world)
 poll_cut world k t name call true found wants h = absurd (cc)
@@ -279,7 +280,7 @@ members_stay number after most world s good =
     let h : Serves (called (calls.Chan number (MemberPage after most)) world).channels s = serves_grows world.channels (called (calls.Chan number (MemberPage after most)) world).channels g s good in
     absorbed_serves (called (calls.Chan number (MemberPage after most)) world).channels s.ended (calls.Chan number (MemberPage after most)) (reply_to (calls.Chan number (MemberPage after most)) world) world.now s
     (λ free. paged_by (called (calls.Chan number (MemberPage after most)) world).channels number (last_place number world.channels) (reply_to (calls.Chan number (MemberPage after most)) world) world.now s (omega arith) (g.low number) (actor.numbered number s.sessions) refl
-        (λ e same. low_at (called (calls.Chan number (MemberPage after most)) world).channels number (last_place number world.channels) e (g.low number) same) h) h
+    (λ e same. low_at (called (calls.Chan number (MemberPage after most)) world).channels number (last_place number world.channels) e (g.low number) same) h) h
 
 objects_stay : (number : ℕ) (after : Option ObjectId) (most : ℕ) → PageStays (calls.Chan number (ObjectPage after most))
 objects_stay number after most world s good =
@@ -287,7 +288,7 @@ objects_stay number after most world s good =
     let h : Serves (called (calls.Chan number (ObjectPage after most)) world).channels s = serves_grows world.channels (called (calls.Chan number (ObjectPage after most)) world).channels g s good in
     absorbed_serves (called (calls.Chan number (ObjectPage after most)) world).channels s.ended (calls.Chan number (ObjectPage after most)) (reply_to (calls.Chan number (ObjectPage after most)) world) world.now s
     (λ free. paged_by (called (calls.Chan number (ObjectPage after most)) world).channels number (last_place number world.channels) (reply_to (calls.Chan number (ObjectPage after most)) world) world.now s (omega arith) (g.low number) (actor.numbered number s.sessions) refl
-        (λ e same. low_at (called (calls.Chan number (ObjectPage after most)) world).channels number (last_place number world.channels) e (g.low number) same) h) h
+    (λ e same. low_at (called (calls.Chan number (ObjectPage after most)) world).channels number (last_place number world.channels) e (g.low number) same) h) h
 
 page_event : (members objects : Bool) (number : ℕ) (p : Sequences) (call : Call)
     → option_map (λ (event : ChannelEvent). calls.Chan number event) (if not members then Some (MemberPage p.after_member PAGE_MEMBERS) else if not objects then Some (ObjectPage p.after_object PAGE_OBJECTS) else None) ≡ Some call → PageStays call

@@ -47,9 +47,10 @@ finds world t h = record {
       let own : IsSessionOf world.channels (name, session) = all_found (IsSessionOf world.channels) name session t.actor.sessions h.of_actor.sessions is in
       subst (λ (n : ℕ). actor.numbered n t.actor.sessions ≡ Some (name, session)) same
       (number_found world.channels name session t.actor.sessions h.of_actor.sessions own.numbered is);
-  stands = λ name session number is.
-      (found_at (actor.has_number number) t.actor.sessions (name, session) (to_rising t.actor.sessions h.of_actor.once) is,
-      eqb-true session.number number (found_passes (actor.has_number number) t.actor.sessions (name, session) is));
+  stands = λ name session number is. (
+    found_at (actor.has_number number) t.actor.sessions (name, session) (to_rising t.actor.sessions h.of_actor.once) is,
+    eqb-true session.number number (found_passes (actor.has_number number) t.actor.sessions (name, session) is),
+  );
 }
 
 -- a session is found by its channel's number
@@ -133,7 +134,7 @@ module _ (world : World) (t : Transport) (h : IsServing world.channels t) (name 
   reads_so r is free =
       ap (λ o. answered_at o (read_call session) (reply_to (read_call session) world) world.now t.actor) free
       ∙ ap (λ o. on_session (λ n one. read_by n one (reading (reply_to (read_call session) world)) world.now) o t.actor)
-          (number_found world.channels name session t.actor.sessions h.of_actor.sessions own.numbered stands)
+      (number_found world.channels name session t.actor.sessions h.of_actor.sessions own.numbered stands)
       ∙ ap (λ (x : Reading). read_by name session x world.now t.actor) is
 
   abbrev Frames : List Entry → List Frame

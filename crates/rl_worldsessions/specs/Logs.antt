@@ -10,11 +10,12 @@ abbrev pub ArePlaced : ℕ → List Entry → Type 0
 ArePlaced last [] = ⊤
 ArePlaced last (e ∷ es) = (e.place ≡ suc last) × ArePlaced (suc last) es
 
--- the entries of every channel's log stand at 1, 2, .., and no place is past the last that there is
+-- the entries of a channel's log stand at 1, 2, .., and no place is past the last that there is
 pub record IsInPlace (site : List ℕ) (past : List ChannelEvent) : Type 0 where
   pub placed : ArePlaced 0 (log site past)
   pub bounded : head site past ≤ MAX_PLACE
 
+-- so those of every channel's
 abbrev pub LogsAreInPlace : Type 0
 LogsAreInPlace = (site : List ℕ) (past : List ChannelEvent) → IsInPlace site past
 

@@ -30,11 +30,12 @@ pub record IsPagedBy (world : World) (s : actor.State) (name : List ℕ) (sessio
   pub absorbs : s.ended ≡ None → at name (after_page event session world s).sessions ≡ Some (paged (page_absorbed (page_told event session world) session.pages) session)
   pub shows : s.ended ≡ None → (after_page event session world s).waiting ≡ option_to_list (page_frame (page_told event session world) session.pages)
 
+-- each session of each actor that asks for a page is paged so
 abbrev pub AllPaged : World → Type 0
 AllPaged world =
     AllByRecursion
-        (λ (t : Transport). (name : List ℕ) (session : Session) (event : ChannelEvent) → at name t.actor.sessions ≡ Some session → next_event session.pages ≡ Some event → IsPagedBy world t.actor name session event)
-        world.transports
+    (λ (t : Transport). (name : List ℕ) (session : Session) (event : ChannelEvent) → at name t.actor.sessions ≡ Some session → next_event session.pages ≡ Some event → IsPagedBy world t.actor name session event)
+    world.transports
 
 -- so each page of each session of every run
 abbrev pub PagesAreTheirChannels : Type 0

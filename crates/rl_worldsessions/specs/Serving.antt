@@ -73,6 +73,7 @@ pub record IsServing (channels : Channels) (t : Transport) : Type 0 where
   pub of_actor : Serves channels t.actor
   pub flushed : t.actor.waiting ≡ []
 
+-- all transports of a world have such actors
 abbrev pub AreServing : World → Type 0
 AreServing world = AllByRecursion (IsServing world.channels) world.transports
 

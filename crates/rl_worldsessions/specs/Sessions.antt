@@ -67,6 +67,7 @@ pub record ReadsRuns (world : World) (s : actor.State) (name : List ℕ) (sessio
   pub comes : first the_site (history session.number world) ≤ session.position + 1 → (list : List Entry) × (read_told session world ≡ Came list)
   pub said : read_told session world ≢ Unread
 
+-- each session of each actor reads so
 abbrev pub AllReadRuns : World → Type 0
 AllReadRuns world =
     AllByRecursion (λ (t : Transport). (name : List ℕ) (session : Session) → at name t.actor.sessions ≡ Some session → ReadsRuns world t.actor name session) world.transports
