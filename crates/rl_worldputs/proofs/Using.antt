@@ -1,0 +1,147 @@
+-- Uses of serials: what stays as they become more.
+use Rattle.std.proofs.Common.{◌≡◌, ◌⊎◌, inl, inr, ℕ, ◌+◌, ◌≤◌, ◌<◌, Bool, true, false, List, [], ◌∷◌, ◌++◌, length, refl, sym, ◌∙◌, ap, subst, arith}
+use Rattle.std.specs.Prelude.{Option, Some, None, if◌then◌else◌}
+use Rattle.std.specs.List.{AllByRecursion}
+use Rattle.rl_types.specs.declared.frames.Frame.{Frame}
+use Rattle.rl_types.specs.declared.frames.Frame.TheVariants as frames
+use Rattle.rl_types.specs.declared.frames.Head.{Head}
+use Rattle.rl_events.specs.declared.channel.ChannelEvent.{ChannelEvent}
+use Rattle.rl_events.specs.declared.channel.ChannelEvent.TheVariants.{Put}
+use Rattle.rl_ids.specs.Forms.{conn_text}
+use Rattle.rl_connbook.proofs.Each.{all_weaker, all_append}
+use Rattle.rl_ackq.specs.declared.pending.Pending.{Pending}
+use Rattle.rl_ackq.specs.Frames.{with_serial}
+use Rattle.rl_ackq.specs.Queue.{Queue, is_full, pushed, pending_as, renumbered, numbered_from}
+use Rattle.rl_clientmodel.specs.Hearing.{all_pushed, all_numbered}
+use Rattle.rl_actormodel.specs.declared.parts.Holder.{Holder}
+use Rattle.rl_actormodel.specs.declared.parts.Wish.{Wish}
+use Rattle.rl_actormodel.specs.declared.parts.Wish.TheVariants as wishes
+use Rattle.rl_actormodel.specs.State as actor
+use Rattle.rl_worldmodel.specs.World.{Transport}
+use Rattle.rl_worldtold.specs.Truth.{OnHolder}
+use Rattle.rl_worldputs.specs.Uses.{Use, IsThis, IsUse, AreSingle, AreBelow, OnHead, OnFrame, IsPlain, IsUseOf, IsUseBy, IsSent, IsNumbered, IsWishUsing, IsActorUsing, IsLinkUsing, IsPutUsing, IsChannelUsing}
+
+-- FRAMES
+
+pub frame_weaker : (P Q : ℕ → List ℕ → Type 0) → ((serial : ℕ) (channel : List ℕ) → P serial channel → Q serial channel) → (frame : Frame) → OnFrame P frame → OnFrame Q frame
+frame_weaker P Q so (frames.Message head items) is = λ serial has. so serial head.channel (is serial has)
+frame_weaker P Q so (frames.Presence head items) is = λ serial has. so serial head.channel (is serial has)
+frame_weaker P Q so (frames.Object head ops) is = λ serial has. so serial head.channel (is serial has)
+frame_weaker P Q so frame is = tt
+
+-- a frame without a serial is as any other is to be
+pub plain_so : (P : ℕ → List ℕ → Type 0) (list : List Frame) → AllByRecursion IsPlain list → AllByRecursion (OnFrame P) list
+plain_so P list all = all_weaker _ _ (frame_weaker (λ serial channel. ⊥) P (λ serial channel none. absurd none)) list all
+
+-- GROWING
+
+-- the uses that were stay, and each new one is of this connection
+pub record Grows (uses later : List Use) (id : Option (List ℕ)) : Type 0 where
+  pub kept : (i : List ℕ) (serial : ℕ) (channel : List ℕ) → IsUse uses i serial channel → IsUse later i serial channel
+  pub only : (i : List ℕ) (serial : ℕ) (channel : List ℕ) → IsUse later i serial channel → (id ≡ Some i) ⊎ IsUse uses i serial channel
+
+pub grows_same : (uses : List Use) (id : Option (List ℕ)) → Grows uses uses id
+grows_same uses id = record { kept = λ i serial channel is. is; only = λ i serial channel is. inr is }
+
+pub grows_then : (uses later last : List Use) (id : Option (List ℕ)) → Grows uses later id → Grows later last id → Grows uses last id
+grows_then uses later last id one two = record {
+  kept = λ i serial channel is. two.kept i serial channel (one.kept i serial channel is);
+  only = λ i serial channel is. elim (two.only i serial channel is) [ inl mine ↦ inl mine | inr old ↦ one.only i serial channel old ];
+}
+
+module _ (uses later : List Use) (kept : (i : List ℕ) (serial : ℕ) (channel : List ℕ) → IsUse uses i serial channel → IsUse later i serial channel) where
+  pub use_of_stays : (id : List ℕ) (frame : Frame) → IsUseOf uses id frame → IsUseOf later id frame
+  use_of_stays id frame is = frame_weaker _ _ (kept id) frame is
+
+  by_stays : (holder : Option Holder) (serial : ℕ) (channel : List ℕ) → IsUseBy uses holder serial channel → IsUseBy later holder serial channel
+  by_stays None serial channel is = absurd is
+  by_stays (Some h) serial channel is = kept (conn_text h.conn) serial channel is
+
+  pub sent_stays : (holder : Option Holder) (frame : Frame) → IsSent uses holder frame → IsSent later holder frame
+  sent_stays holder frame is = frame_weaker _ _ (by_stays holder) frame is
+
+  wish_stays : (names : List (List ℕ)) (wish : Wish) → IsWishUsing uses names wish → IsWishUsing later names wish
+  wish_stays names (wishes.Begin p h) is = kept (conn_text h.conn) p.serial p.channel is
+  wish_stays names (wishes.AskToPut p h) is = kept (conn_text h.conn) p.serial p.channel is
+  wish_stays names (wishes.Put p h number) is = (kept (conn_text h.conn) p.serial p.channel is.0, is.1)
+  wish_stays names wish is = tt
+
+  pub link_stays : (names : List (List ℕ)) (t : Transport) → IsLinkUsing uses names t → IsLinkUsing later names t
+  link_stays names t is = record {
+    of_actor = record { wishing = wish_stays names t.actor.wish is.of_actor.wishing; known = is.of_actor.known };
+    sent = all_weaker _ _ (sent_stays t.actor.holder) t.to_service.put is.sent;
+  }
+
+  put_stays : (name : List ℕ) (event : ChannelEvent) → IsPutUsing uses name event → IsPutUsing later name event
+  put_stays name (Put conn serial body now) is = λ real. kept (conn_text conn) serial name (is real)
+  put_stays name event is = tt
+
+  pub channel_stays : (c : List ℕ × List ChannelEvent) → IsChannelUsing uses c → IsChannelUsing later c
+  channel_stays c is = all_weaker _ _ (put_stays c.0) c.1 is
+
+-- ONE MORE
+
+-- the channel of a frame that is acknowledged
+abbrev channel_in : Frame → List ℕ
+channel_in (frames.Message head items) = head.channel
+channel_in (frames.Presence head items) = head.channel
+channel_in (frames.Object head ops) = head.channel
+channel_in frame = []
+
+abbrev use_as : List ℕ → ℕ → Frame → Use
+use_as id serial frame = record { id = id; serial = serial; channel = channel_in frame }
+
+grows_one : (uses : List Use) (id : List ℕ) (serial : ℕ) (frame : Frame) → Grows uses (use_as id serial frame ∷ uses) (Some id)
+grows_one uses id serial frame = record {
+  kept = λ i s channel is. inr is;
+  only = λ i s channel is. elim is [ inl this ↦ inl (ap (λ (x : List ℕ). Some x) this.0) | inr old ↦ inr old ];
+}
+
+single_one : (uses : List Use) (id : List ℕ) (serial : ℕ) (frame : Frame) → AreBelow uses id serial → AreSingle uses → AreSingle (use_as id serial frame ∷ uses)
+single_one uses id serial frame below single i s one two (inl a) (inl b) = sym a.2 ∙ b.2
+single_one uses id serial frame below single i s one two (inl a) (inr b) =
+    let small : s < serial = below s two (subst (λ (x : List ℕ). IsUse uses x s two) (sym a.0) b) in
+    let same : serial ≡ s = a.1 in absurd (omega (arith, small, same))
+single_one uses id serial frame below single i s one two (inr a) (inl b) =
+    let small : s < serial = below s one (subst (λ (x : List ℕ). IsUse uses x s one) (sym b.0) a) in
+    let same : serial ≡ s = b.1 in absurd (omega (arith, small, same))
+single_one uses id serial frame below single i s one two (inr a) (inr b) = single i s one two a b
+
+below_one : (uses : List Use) (id : List ℕ) (serial : ℕ) (frame : Frame) → AreBelow uses id serial → AreBelow (use_as id serial frame ∷ uses) id (serial + 1)
+below_one uses id serial frame below s channel (inl a) = let same : serial ≡ s = a.1 in omega (arith, same)
+below_one uses id serial frame below s channel (inr b) = let small : s < serial = below s channel b in omega (arith, small)
+
+head_this : (uses : List Use) (id : List ℕ) (n serial : ℕ) (channel : List ℕ) → Some n ≡ Some serial → IsUse (record { id = id; serial = n; channel = channel } ∷ uses) id serial channel
+head_this uses id n serial channel has = let same : n ≡ serial = cc in inl (refl, same, refl)
+
+-- the frame with this serial is the new use
+frame_one : (uses : List Use) (id : List ℕ) (serial : ℕ) (frame : Frame) → IsUseOf (use_as id serial frame ∷ uses) id (with_serial serial frame)
+frame_one uses id serial (frames.Message head items) = λ s has. head_this uses id serial s head.channel has
+frame_one uses id serial (frames.Presence head items) = λ s has. head_this uses id serial s head.channel has
+frame_one uses id serial (frames.Object head ops) = λ s has. head_this uses id serial s head.channel has
+frame_one uses id serial frame = tt
+
+-- FRAMES THAT ARE QUEUED
+
+-- what a queue becomes with these frames sent
+pub record Pushes (uses : List Use) (id : List ℕ) (queue : Queue) (list : List Frame) : Type 0 where
+  pub later : List Use
+  pub grown : Grows uses later (Some id)
+  pub single : AreSingle later
+  pub numbered : IsNumbered later id queue
+  pub sent : AllByRecursion (IsUseOf later id) list
+
+pub push_one : (uses : List Use) (id : List ℕ) (queue : Queue) (frame : Frame) → AreSingle uses → IsNumbered uses id queue → Pushes uses id (pushed frame queue) (with_serial queue.next frame ∷ [])
+push_one uses id queue frame single h =
+    let here : IsUseOf (use_as id queue.next frame ∷ uses) id (with_serial queue.next frame) = frame_one uses id queue.next frame in
+    record {
+      later = use_as id queue.next frame ∷ uses;
+      grown = grows_one uses id queue.next frame;
+      single = single_one uses id queue.next frame h.below single;
+      numbered = record {
+        below = below_one uses id queue.next frame h.below;
+        waiting = all_append _ queue.pending (pending_as queue.next frame ∷ [])
+            (all_weaker _ _ (λ one is. use_of_stays uses (use_as id queue.next frame ∷ uses) (grows_one uses id queue.next frame).kept id one.frame is) queue.pending h.waiting) (here, tt);
+      };
+      sent = (here, tt);
+    }
