@@ -1,1 +1,3 @@
 pub mod Using
+pub mod Turning
+pub mod Turned

@@ -145,3 +145,60 @@ push_one uses id queue frame single h =
       };
       sent = (here, tt);
     }
+
+pushes_by : (uses : List Use) (id : List ℕ) (b : Bool) (x y : Queue) (one two : List Frame) → Pushes uses id x one → Pushes uses id y two → Pushes uses id (if b then x else y) (if b then one else two)
+pushes_by uses id true x y one two p q = p
+pushes_by uses id false x y one two p q = q
+
+pushes_then : (uses : List Use) (id : List ℕ) (queue last : Queue) (frame : Frame) (list : List Frame) (p : Pushes uses id queue (frame ∷ [])) → Pushes p.later id last list → Pushes uses id last (frame ∷ list)
+pushes_then uses id queue last frame list p q = record {
+  later = q.later;
+  grown = grows_then uses p.later q.later (Some id) p.grown q.grown;
+  single = q.single;
+  numbered = q.numbered;
+  sent = (use_of_stays p.later q.later q.grown.kept id frame p.sent.0, q.sent);
+}
+
+pub push_all : (list : List Frame) (uses : List Use) (id : List ℕ) (queue : Queue) → AreSingle uses → IsNumbered uses id queue → Pushes uses id (all_pushed list queue) (all_numbered list queue)
+push_all [] uses id queue single h = record { later = uses; grown = grows_same uses (Some id); single = single; numbered = h; sent = tt }
+push_all (frame ∷ list) uses id queue single h =
+    let p = push_one uses id queue frame single h in
+    pushes_by uses id (is_full queue) (all_pushed list queue) (all_pushed list (pushed frame queue)) (all_numbered list queue) (with_serial queue.next frame ∷ all_numbered list (pushed frame queue))
+    (push_all list uses id queue single h)
+    (pushes_then uses id (pushed frame queue) (all_pushed list (pushed frame queue)) (with_serial queue.next frame) (all_numbered list (pushed frame queue)) p
+    (push_all list p.later id (pushed frame queue) p.single p.numbered))
+
+-- FRAMES THAT ARE NUMBERED ANEW
+
+number_all : (waiting : List Pending) (uses : List Use) (id : List ℕ) (serial : ℕ) → AreSingle uses → AreBelow uses id serial → Pushes uses id (record { pending = numbered_from serial waiting; next = serial + length waiting }) []
+number_all [] uses id serial single below = record {
+  later = uses;
+  grown = grows_same uses (Some id);
+  single = single;
+  numbered = record { below = λ s channel is. let small : s < serial = below s channel is in omega (arith, small); waiting = tt };
+  sent = tt;
+}
+number_all (one ∷ rest) uses id serial single below =
+    let q = number_all rest (use_as id serial one.frame ∷ uses) id (serial + 1) (single_one uses id serial one.frame below single) (below_one uses id serial one.frame below) in
+    record {
+      later = q.later;
+      grown = grows_then uses (use_as id serial one.frame ∷ uses) q.later (Some id) (grows_one uses id serial one.frame) q.grown;
+      single = q.single;
+      numbered = record {
+        below = λ s channel is. let small : s < serial + 1 + length rest = q.numbered.below s channel is in omega (arith, small);
+        waiting = (use_of_stays (use_as id serial one.frame ∷ uses) q.later q.grown.kept id (with_serial serial one.frame) (frame_one uses id serial one.frame), q.numbered.waiting);
+      };
+      sent = tt;
+    }
+
+-- of a connection without uses
+pub renumber : (uses : List Use) (id : List ℕ) (queue : Queue) → AreSingle uses → AreBelow uses id 0 → Pushes uses id (renumbered queue) []
+renumber uses id queue single below =
+    let q = number_all queue.pending uses id 0 single below in
+    record {
+      later = q.later;
+      grown = q.grown;
+      single = q.single;
+      numbered = record { below = λ s channel is. let small : s < 0 + length queue.pending = q.numbered.below s channel is in omega (arith, small); waiting = q.numbered.waiting };
+      sent = tt;
+    }
