@@ -1,3 +1,4 @@
 pub mod Using
 pub mod Turning
 pub mod Turned
+pub mod Clients
