@@ -60,7 +60,7 @@ link_using uses owner world k f owners cuts_ same step h = record {
         changed_one (IsLinkUsing uses (names_of world.channels)) k f t (step t found (all_at (IsLinkUsing uses (names_of world.channels)) k t world.transports found h.links)) world.transports found h.links
 
 -- a client whose connection and queue stay, or that forgets it
-held_client : (uses : List Use) (owner : List ℕ → Option (List ℕ)) (world : World) (name : List ℕ) (before after : ClientState) → IsCalmed before after → IsHeld before after → IsClientUsing uses owner world (name, before) → IsClientUsing uses owner world (name, after)
+pub held_client : (uses : List Use) (owner : List ℕ → Option (List ℕ)) (world : World) (name : List ℕ) (before after : ClientState) → IsCalmed before after → IsHeld before after → IsClientUsing uses owner world (name, before) → IsClientUsing uses owner world (name, after)
 held_client uses owner world name before after calm (inl none) h = record {
   own = λ id is. let wrong : None ≡ Some id = sym none ∙ is in absurd (cc);
   numbered = λ id is. let wrong : None ≡ Some id = sym none ∙ is in absurd (cc);
@@ -72,10 +72,10 @@ held_client uses owner world name before after calm (inr same) h = record {
   ready = λ is k t at found uncut. let c = calm is in subst (λ (o : Option (List ℕ)). MayServe uses owner name o t.actor.holder) (sym c.1) (h.ready c.0 k t at found uncut);
 }
 
-calm_steps : (before after : ClientState) → Steps before after → IsCalmed before after
+pub calm_steps : (before after : ClientState) → Steps before after → IsCalmed before after
 calm_steps before after steps is = let c = steps.connecting is in (c.0, c.1)
 
-client_using : (uses : List Use) (owner : List ℕ → Option (List ℕ)) (world : World) (name : List ℕ) (f : ClientState → ClientState) → ((c : List ℕ × ClientState) → name ≡ c.0 → IsClientUsing uses owner world c → IsClientUsing uses owner world (c.0, f c.1))
+pub client_using : (uses : List Use) (owner : List ℕ → Option (List ℕ)) (world : World) (name : List ℕ) (f : ClientState → ClientState) → ((c : List ℕ × ClientState) → name ≡ c.0 → IsClientUsing uses owner world c → IsClientUsing uses owner world (c.0, f c.1))
     → IsUsing uses owner world → IsUsing uses owner (on_client name f world)
 client_using uses owner world name f step h = record {
   single = h.single;
@@ -103,14 +103,14 @@ where_using : (uses : List Use) (owner : List ℕ → Option (List ℕ)) (k : �
 where_using uses owner k None world h = h
 where_using uses owner k (Some t) world h = cut_using uses owner t.cut k t world h
 
-at_using : (uses : List Use) (owner : List ℕ → Option (List ℕ)) (o : Option ℕ) (world : World) → IsUsing uses owner world → IsUsing uses owner (cut_at o world)
+pub at_using : (uses : List Use) (owner : List ℕ → Option (List ℕ)) (o : Option ℕ) (world : World) → IsUsing uses owner world → IsUsing uses owner (cut_at o world)
 at_using uses owner None world h = h
 at_using uses owner (Some k) world h = where_using uses owner k (slice_get world.transports k) world h
 
-cuts_using : (uses : List Use) (owner : List ℕ → Option (List ℕ)) (name : List ℕ) (world : World) → IsUsing uses owner world → IsUsing uses owner (cuts name world)
+pub cuts_using : (uses : List Use) (owner : List ℕ → Option (List ℕ)) (name : List ℕ) (world : World) → IsUsing uses owner world → IsUsing uses owner (cuts name world)
 cuts_using uses owner name world h = at_using uses owner (latest name world) world h
 
-if_using : (uses : List Use) (owner : List ℕ → Option (List ℕ)) (b : Bool) (name : List ℕ) (world : World) → IsUsing uses owner world → IsUsing uses owner (cuts_if b name world)
+pub if_using : (uses : List Use) (owner : List ℕ → Option (List ℕ)) (b : Bool) (name : List ℕ) (world : World) → IsUsing uses owner world → IsUsing uses owner (cuts_if b name world)
 if_using uses owner true name world h = cuts_using uses owner name world h
 if_using uses owner false name world h = h
 
@@ -120,7 +120,7 @@ put_link : (uses : List Use) (names : List (List ℕ)) (list : List Frame) (cut 
 put_link uses names list true t sent is = is
 put_link uses names list false t sent is = record { of_actor = is.of_actor; sent = all_append (IsSent uses t.actor.holder) t.to_service.put list is.sent (sent refl) }
 
-sent_using : (uses : List Use) (owner : List ℕ → Option (List ℕ)) (o : Option ℕ) (list : List Frame) (world : World) → ((k : ℕ) (t : Transport) → o ≡ Some k → slice_get world.transports k ≡ Some t → t.cut ≡ false → AllByRecursion (IsSent uses t.actor.holder) list)
+pub sent_using : (uses : List Use) (owner : List ℕ → Option (List ℕ)) (o : Option ℕ) (list : List Frame) (world : World) → ((k : ℕ) (t : Transport) → o ≡ Some k → slice_get world.transports k ≡ Some t → t.cut ≡ false → AllByRecursion (IsSent uses t.actor.holder) list)
     → IsUsing uses owner world → IsUsing uses owner (sent_on o list world)
 sent_using uses owner None list world sent h = h
 sent_using uses owner (Some k) list world sent h =
@@ -188,7 +188,7 @@ turned_by_using name act (Some state) world h at step =
     let t = step state at (in_all (IsClientUsing h.uses h.owner world) name world.clients state h.fits.each at) in
     record { uses = t.later; owner = h.owner; fits = turned_using h.uses h.owner name (act state) world t h.fits }
 
-linked_at : (world : World) (name : List ℕ) (state : ClientState) → IsTrueWorld world → client_at name world ≡ Some state → IsLinked world name state
+pub linked_at : (world : World) (name : List ℕ) (state : ClientState) → IsTrueWorld world → client_at name world ≡ Some state → IsLinked world name state
 linked_at world name state true_ at = (found_in world name world.clients state true_.clients at).linked
 
 pub told_using : (name : List ℕ) (command : Command) (world : World) → IsNoConnect command → IsTrueWorld world → HasUses world → HasUses (takes_turn name (acted command world.now) world)

@@ -2,3 +2,4 @@ pub mod Using
 pub mod Turning
 pub mod Turned
 pub mod Clients
+pub mod Opening
