@@ -3,3 +3,4 @@ pub mod Turning
 pub mod Turned
 pub mod Clients
 pub mod Opening
+pub mod Recovery
