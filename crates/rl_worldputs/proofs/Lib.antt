@@ -4,3 +4,4 @@ pub mod Turned
 pub mod Clients
 pub mod Opening
 pub mod Recovery
+pub mod Hands
