@@ -5,3 +5,4 @@ pub mod Clients
 pub mod Opening
 pub mod Recovery
 pub mod Hands
+pub mod Naming
