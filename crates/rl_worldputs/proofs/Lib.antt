@@ -6,3 +6,4 @@ pub mod Opening
 pub mod Recovery
 pub mod Hands
 pub mod Naming
+pub mod Serving

@@ -17,7 +17,7 @@ use Rattle.rl_worldmodel.specs.World.{World, the_range, changed_at, names}
 use Rattle.rl_worldmodel.specs.Calls.{with_book_event, named_by, with_name, event_onto, with_event}
 use Rattle.rl_worldtold.specs.Truth.{Channels, names_of}
 use Rattle.rl_worldtold.specs.Listed.{AreDistinct}
-use Rattle.rl_worldtold.proofs.Shape.{get_append, changed_one, changed_none, map_changed, same_bytes, self_bytes, name_beside}
+use Rattle.rl_worldtold.proofs.Shape.{all_at, get_append, changed_one, changed_none, map_changed, same_bytes, self_bytes, name_beside}
 use Rattle.rl_worldputs.specs.Uses.{Use, HasNumber, IsPutUsing, IsChannelUsing, IsUsing}
 
 -- NAMES AND NUMBERS
@@ -116,15 +116,8 @@ module _ (uses : List Use) (owner : List ℕ → Option (List ℕ)) (world : Wor
     where
       puts_by : (o : Option (List ℕ × List ChannelEvent)) → slice_get world.channels number ≡ o → AllByRecursion (IsChannelUsing uses) (changed_at number (event_onto event) world.channels)
       puts_by None found = subst (AllByRecursion (IsChannelUsing uses)) (sym (changed_none number (event_onto event) world.channels found)) h.puts
-      puts_by (Some c) found = puts_here c found (each_at number world.channels c found h.puts)
-        where
-          each_at : (k : ℕ) (cs : Channels) (c : List ℕ × List ChannelEvent) → slice_get cs k ≡ Some c → AllByRecursion (IsChannelUsing uses) cs → IsChannelUsing uses c
-          each_at k [] c found all = absurd (cc)
-          each_at zero (d ∷ cs) c found all = let same : d ≡ c = cc in subst (IsChannelUsing uses) same all.0
-          each_at (suc k) (d ∷ cs) c found all = each_at k cs c found all.1
-
-          puts_here : (c : List ℕ × List ChannelEvent) → slice_get world.channels number ≡ Some c → IsChannelUsing uses c → AllByRecursion (IsChannelUsing uses) (changed_at number (event_onto event) world.channels)
-          puts_here c found here = changed_one (IsChannelUsing uses) number (event_onto event) c (fits c found, here) world.channels found h.puts
+      puts_by (Some c) found =
+          changed_one (IsChannelUsing uses) number (event_onto event) c (fits c found, all_at (IsChannelUsing uses) number c world.channels found h.puts) world.channels found h.puts
 
   -- A NAME IS ASKED FOR
 

@@ -119,10 +119,10 @@ module _ (uses : List Use) (owner : List ℕ → Option (List ℕ)) where
 -- ANOTHER OWNER
 
 -- the connection with this id is this client's from now on
-abbrev owned_by : List ℕ → List ℕ → (List ℕ → Option (List ℕ)) → List ℕ → Option (List ℕ)
+abbrev pub owned_by : List ℕ → List ℕ → (List ℕ → Option (List ℕ)) → List ℕ → Option (List ℕ)
 owned_by id name owner x = if bytes_eq x id then Some name else owner x
 
-owned_self : (id name : List ℕ) (owner : List ℕ → Option (List ℕ)) → owned_by id name owner id ≡ Some name
+pub owned_self : (id name : List ℕ) (owner : List ℕ → Option (List ℕ)) → owned_by id name owner id ≡ Some name
 owned_self id name owner = ap (λ (b : Bool). if b then Some name else owner id) (self_bytes id)
 
 -- who had another connection has it still
@@ -132,7 +132,7 @@ owned_other id name other x n owner true is was apart has =
     let same : other ≡ n = cc in absurd (apart same)
 owned_other id name other x n owner false is was apart has = has
 
-owned_given : (P : List ℕ → Type 0) (id name x n : List ℕ) (owner : List ℕ → Option (List ℕ)) (b : Bool) → bytes_eq x id ≡ b → P id → ((m : List ℕ) → owner x ≡ Some m → P x) → (if b then Some name else owner x) ≡ Some n → P x
+pub owned_given : (P : List ℕ → Type 0) (id name x n : List ℕ) (owner : List ℕ → Option (List ℕ)) (b : Bool) → bytes_eq x id ≡ b → P id → ((m : List ℕ) → owner x ≡ Some m → P x) → (if b then Some name else owner x) ≡ Some n → P x
 owned_given P id name x n owner true is here old has = subst P (sym (same_bytes x id is)) here
 owned_given P id name x n owner false is here old has = old n has
 
