@@ -7,3 +7,4 @@ pub mod Recovery
 pub mod Hands
 pub mod Naming
 pub mod Serving
+pub mod Performing

@@ -74,7 +74,7 @@ sent_first uses before after (inl none) frame is =
     frame_weaker (IsUseBy uses None) (IsUseBy uses after) (λ serial channel wrong. absurd wrong) frame (subst (λ (o : Option Holder). IsSent uses o frame) none is)
 sent_first uses before after (inr same) frame is = subst (λ (o : Option Holder). IsSent uses o frame) (sym same) is
 
-link_works : (uses : List Use) (ns : List (List ℕ)) (act : actor.State → actor.State) (t : Transport) → IsSameOrFirst t.actor.holder (act t.actor).holder → IsActorUsing uses ns (act t.actor) → IsLinkUsing uses ns t → IsLinkUsing uses ns (works act t)
+pub link_works : (uses : List Use) (ns : List (List ℕ)) (act : actor.State → actor.State) (t : Transport) → IsSameOrFirst t.actor.holder (act t.actor).holder → IsActorUsing uses ns (act t.actor) → IsLinkUsing uses ns t → IsLinkUsing uses ns (works act t)
 link_works uses ns act t holds good h = record {
   of_actor = subst (IsActorUsing uses ns) (sym (works_actor act t)) (record { wishing = good.wishing; known = good.known });
   sent = subst (λ (way : Way). AllByRecursion (IsSent uses (works act t).actor.holder) way.put) (sym (works_service act t))
@@ -82,7 +82,7 @@ link_works uses ns act t holds good h = record {
       (all_weaker _ _ (sent_first uses t.actor.holder (act t.actor).holder holds) t.to_service.put h.sent));
 }
 
-works_holder : (act : actor.State → actor.State) (t : Transport) → (works act t).actor.holder ≡ (act t.actor).holder
+pub works_holder : (act : actor.State → actor.State) (t : Transport) → (works act t).actor.holder ≡ (act t.actor).holder
 works_holder act t = ap (λ (s : actor.State). s.holder) (works_actor act t)
 
 -- more names are known
@@ -93,7 +93,7 @@ wish_named uses before after more (wishes.AskToPut p h) is = is
 wish_named uses before after more (wishes.Put p h number) is = (is.0, more p.channel number is.1)
 wish_named uses before after more wish is = tt
 
-link_named : (uses : List Use) (before after : List (List ℕ)) → ((name : List ℕ) (n : ℕ) → HasNumber before name n → HasNumber after name n) → (t : Transport) → IsLinkUsing uses before t → IsLinkUsing uses after t
+pub link_named : (uses : List Use) (before after : List (List ℕ)) → ((name : List ℕ) (n : ℕ) → HasNumber before name n → HasNumber after name n) → (t : Transport) → IsLinkUsing uses before t → IsLinkUsing uses after t
 link_named uses before after more t is = record {
   of_actor = record { wishing = wish_named uses before after more t.actor.wish is.of_actor.wishing; known = all_weaker _ _ (λ e has. more e.0 e.1 has) t.actor.numbers is.of_actor.known };
   sent = is.sent;
@@ -101,11 +101,11 @@ link_named uses before after more t is = record {
 
 -- WORLDS
 
-given_grows : (before later : List Answered) (id : List ℕ) → last_number the_range before ≤ last_number the_range later → IsGivenId before id → IsGivenId later id
+pub given_grows : (before later : List Answered) (id : List ℕ) → last_number the_range before ≤ last_number the_range later → IsGivenId before id → IsGivenId later id
 given_grows before later id more g = (g.0, g.1, omega (arith, g.2, more))
 
 -- one transport changes after what a call leaves
-serve_using : (uses : List Use) (owner owner_after : List ℕ → Option (List ℕ)) (world mid : World) (k : ℕ) (f : Transport → Transport) → Leaves uses world mid
+pub serve_using : (uses : List Use) (owner owner_after : List ℕ → Option (List ℕ)) (world mid : World) (k : ℕ) (f : Transport → Transport) → Leaves uses world mid
     → ((t : Transport) → slice_get world.transports k ≡ Some t → IsLinkUsing uses (names_of mid.channels) t → IsLinkUsing uses (names_of mid.channels) (f t))
     → ((id name : List ℕ) → owner_after id ≡ Some name → IsGivenId mid.book id)
     → ((c : List ℕ × ClientState) → IsTellable world c → IsClientUsing uses owner world c → IsClientUsing uses owner_after (on_transport k f mid) c)
@@ -129,7 +129,7 @@ serve_using uses owner owner_after world mid k f l step owned each telling h = r
     links_by (Some t) found =
         changed_one (IsLinkUsing uses (names_of mid.channels)) k f t (step t found (all_at (IsLinkUsing uses (names_of mid.channels)) k t world.transports found before)) world.transports found before
 
-steady_each : (uses : List Use) (owner : List ℕ → Option (List ℕ)) (world mid : World) (k : ℕ) (f : Transport → Transport) → Leaves uses world mid → ((t : Transport) → (f t).owner ≡ t.owner) → ((t : Transport) → (f t).cut ≡ false → t.cut ≡ false)
+pub steady_each : (uses : List Use) (owner : List ℕ → Option (List ℕ)) (world mid : World) (k : ℕ) (f : Transport → Transport) → Leaves uses world mid → ((t : Transport) → (f t).owner ≡ t.owner) → ((t : Transport) → (f t).cut ≡ false → t.cut ≡ false)
     → ((t : Transport) → slice_get world.transports k ≡ Some t → (f t).actor.holder ≡ t.actor.holder) → (c : List ℕ × ClientState) → IsClientUsing uses owner world c → IsClientUsing uses owner (on_transport k f mid) c
 steady_each uses owner world mid k f l owners cuts same c h = record {
   own = h.own;
@@ -138,7 +138,7 @@ steady_each uses owner world mid k f l owners cuts same c h = record {
 }
 
 -- where the actor keeps its connection
-serve_steady : (uses : List Use) (owner : List ℕ → Option (List ℕ)) (world mid : World) (k : ℕ) (act : actor.State → actor.State) (on : Transport → Transport) → Leaves uses world mid
+pub serve_steady : (uses : List Use) (owner : List ℕ → Option (List ℕ)) (world mid : World) (k : ℕ) (act : actor.State → actor.State) (on : Transport → Transport) → Leaves uses world mid
     → ((t : Transport) → (on t).actor ≡ t.actor) → ((t : Transport) → (on t).owner ≡ t.owner) → ((t : Transport) → (on t).cut ≡ t.cut) → ((t : Transport) → (on t).to_service.put ≡ t.to_service.put)
     → ((t : Transport) → slice_get world.transports k ≡ Some t → (act t.actor).holder ≡ t.actor.holder)
     → ((t : Transport) → slice_get world.transports k ≡ Some t → IsLinkUsing uses (names_of mid.channels) t → IsActorUsing uses (names_of mid.channels) (act t.actor))
@@ -157,11 +157,11 @@ serve_steady uses owner world mid k act on l actors owners cuts puts same step t
     (λ t found. works_holder act (on t) ∙ subst (λ (s : actor.State). (act s).holder ≡ t.actor.holder) (sym (actors t)) (same t found)) c is)
     telling h
 
-call_same : (world : World) (k : ℕ) (t u : Transport) → slice_get world.transports k ≡ Some t → slice_get world.transports k ≡ Some u → t ≡ u
+pub call_same : (world : World) (k : ℕ) (t u : Transport) → slice_get world.transports k ≡ Some t → slice_get world.transports k ≡ Some u → t ≡ u
 call_same world k t u a b = let two : Some t ≡ Some u = sym a ∙ b in cc
 
 -- a call that leaves the actor its connection
-serve_call : (uses : List Use) (owner : List ℕ → Option (List ℕ)) (world : World) (k : ℕ) (call : Call) → Leaves uses world (called call world)
+pub serve_call : (uses : List Use) (owner : List ℕ → Option (List ℕ)) (world : World) (k : ℕ) (call : Call) → Leaves uses world (called call world)
     → ((t : Transport) → slice_get world.transports k ≡ Some t → (absorbed call (reply_to call world) world.now t.actor).holder ≡ t.actor.holder)
     → ((t : Transport) → slice_get world.transports k ≡ Some t → IsActorUsing uses (names_of (called call world).channels) t.actor → IsActorUsing uses (names_of (called call world).channels) (absorbed call (reply_to call world) world.now t.actor))
     → IsTelling world → IsUsing uses owner world → IsUsing uses owner (performs k call world)
@@ -169,7 +169,7 @@ serve_call uses owner world k call l same step telling h =
     serve_steady uses owner world (called call world) k (absorbed call (reply_to call world) world.now) (with_call call world) l (λ t. refl) (λ t. refl) (λ t. refl) (λ t. refl) same (λ t found is. step t found is.of_actor) telling h
 
 -- the call of a wish for no connection
-serve_wish : (uses : List Use) (owner : List ℕ → Option (List ℕ)) (world : World) (k : ℕ) (t : Transport) (wish : Wish) (call : Call) → slice_get world.transports k ≡ Some t → t.actor.wish ≡ wish → IsLater wish
+pub serve_wish : (uses : List Use) (owner : List ℕ → Option (List ℕ)) (world : World) (k : ℕ) (t : Transport) (wish : Wish) (call : Call) → slice_get world.transports k ≡ Some t → t.actor.wish ≡ wish → IsLater wish
     → reads.answered call (reply_to call world) world.now t.actor ≡ replied t.actor.wish (reply_to call world) world.now t.actor → Leaves uses world (called call world) → FitsHand uses (names_of (called call world).channels) wish (reply_to call world)
     → IsTelling world → IsUsing uses owner world → IsUsing uses owner (performs k call world)
 serve_wish uses owner world k t wish call found is later same l fits telling h =
