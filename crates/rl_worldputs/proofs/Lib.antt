@@ -8,3 +8,4 @@ pub mod Hands
 pub mod Naming
 pub mod Serving
 pub mod Performing
+pub mod Stepping

@@ -72,7 +72,7 @@ resumed_holder None event reply key now s g is fits has =
     by_reply NotKnown fits has = inl has
     by_reply Unresumed fits has = inl has
 
-serve_resume : (uses : List Use) (owner : List ℕ → Option (List ℕ)) (world : World) (k : ℕ) (t : Transport) (key : List ℕ) → slice_get world.transports k ≡ Some t → t.actor.wish ≡ wishes.Resume key → t.actor.holder ≡ None
+pub serve_resume : (uses : List Use) (owner : List ℕ → Option (List ℕ)) (world : World) (k : ℕ) (t : Transport) (key : List ℕ) → slice_get world.transports k ≡ Some t → t.actor.wish ≡ wishes.Resume key → t.actor.holder ≡ None
     → ((h : Holder) → resuming (reply_to (calls.Book (events.Resume key world.now)) world) ≡ Back h → before_mark key ≡ conn_text h.conn) → IsTelling world → IsUsing uses owner world → IsUsing uses owner (performs k (calls.Book (events.Resume key world.now)) world)
 serve_resume uses owner world k t key found is none fits telling h =
     let l = leaves_book uses owner world h (events.Resume key world.now) in
@@ -143,7 +143,7 @@ fresh book c id next small g same =
     let one : g.0 ≡ c = conn_texts_differ g.0 c (omega (arith, g.2, next, small)) small (g.1 ∙ same) in omega (arith, one, g.2, next)
 
 -- an Open that gave a connection: it is the client's whose transport it is
-serve_opens : (uses : List Use) (owner : List ℕ → Option (List ℕ)) (world : World) (k : ℕ) (t : Transport) (event : BookEvent) (given_ : Holder) (key : List ℕ) → slice_get world.transports k ≡ Some t → t.actor.wish ≡ wishes.Open → t.actor.holder ≡ None
+pub serve_opens : (uses : List Use) (owner : List ℕ → Option (List ℕ)) (world : World) (k : ℕ) (t : Transport) (event : BookEvent) (given_ : Holder) (key : List ℕ) → slice_get world.transports k ≡ Some t → t.actor.wish ≡ wishes.Open → t.actor.holder ≡ None
     → reads.answered (calls.Book event) (reply_to (calls.Book event) world) world.now t.actor ≡ replied t.actor.wish (reply_to (calls.Book event) world) world.now t.actor
     → opening (reply_to (calls.Book event) world) ≡ Opens given_ key → given_.conn ≡ last_number the_range world.book + 1 → given_.conn < 2 ^ 32 → last_number the_range (called (calls.Book event) world).book ≡ last_number the_range world.book + 1
     → IsTelling world → IsUsing uses owner world → IsUsing uses (owned_by (conn_text given_.conn) t.owner owner) (performs k (calls.Book event) world)
@@ -190,7 +190,7 @@ serve_opens uses owner world k t event given_ key found is none same_answer open
     ]
 
 -- one that gave none
-opened_steady : (o : Opening) (now : ℕ) (s : actor.State) → ((h : Holder) (key : List ℕ) → o ≡ Opens h key → ⊥) → IsSteady s (opened_by o now s)
+pub opened_steady : (o : Opening) (now : ℕ) (s : actor.State) → ((h : Holder) (key : List ℕ) → o ≡ Opens h key → ⊥) → IsSteady s (opened_by o now s)
 opened_steady (Opens h key) now s not = absurd (not h key refl)
 opened_steady (Limited count given) now s not = ended_steady (ends.ConnectionLimit count given) s
 opened_steady Unopened now s not = itself s
