@@ -9,3 +9,4 @@ pub mod Naming
 pub mod Serving
 pub mod Performing
 pub mod Stepping
+pub mod Puts
