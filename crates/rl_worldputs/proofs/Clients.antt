@@ -23,6 +23,7 @@ use Rattle.rl_clientmodel.specs.Times.{unlinked, ticked}
 use Rattle.rl_clientmodel.specs.Keys.{recovery_key, key_with, may_recover, is_empty, recovered, with_key, before_mark}
 use Rattle.rl_worldmodel.specs.World.{World, Transport, new_transport, changed_at, on_transport, on_client, client_in, client_at, if_named, latest, last_of, owned}
 use Rattle.rl_worldmodel.specs.Clients.{declared_unless, cut_off, unlinks, cut_unless, cut_where, cut_at, cuts, put_unless, takes_frames, sent_on, sends, cuts_if, turned, turned_by, takes_turn, opened_as, opened_unless, opened_by, opens, obeys, recovered_with, recovered_if, recovered_from, Arrival, Comes, Ends, Nothing, arrival, gives_frame, got_by, got_on}
+use Rattle.rl_worldmodel.specs.Services.{feed_conn}
 use Rattle.rl_worldtold.specs.Truth.{OnHolder, IsOn, IsLinked, IsTrueFrame, IsTrueTransport, IsTrueWorld, names_of}
 use Rattle.rl_worldtold.specs.Tell.{IsTellable, IsTelling}
 use Rattle.rl_worldtold.proofs.Shape.{all_at, all_take, changed_all, changed_one, changed_none, get_append, get_changed, same_bytes, self_bytes, other_by, owned_append, owned_changed, latest_there}
@@ -44,6 +45,8 @@ link_using uses owner world k f owners cuts_ same step h = record {
   single = h.single;
   given = h.given;
   owned = h.owned;
+  fed = h.fed;
+  nobody = h.nobody;
   apart = h.apart;
   puts = h.puts;
   links = links_by (slice_get world.transports k) refl;
@@ -81,6 +84,8 @@ client_using uses owner world name f step h = record {
   single = h.single;
   given = h.given;
   owned = h.owned;
+  fed = h.fed;
+  nobody = h.nobody;
   apart = h.apart;
   puts = h.puts;
   links = h.links;
@@ -136,12 +141,13 @@ apart_names owner name other id differ one two =
     let same : name ≡ other = cc in
     true≢false (sym (self_bytes name) ∙ ap (bytes_eq name) same ∙ differ)
 
-other_client : (uses later : List Use) (owner : List ℕ → Option (List ℕ)) (world after : World) (name : List ℕ) (held : Option (List ℕ)) (c : List ℕ × ClientState) → ((P : Transport → Type 0) → OnLatest world c.0 P → OnLatest after c.0 P) → bytes_eq name c.0 ≡ false → ((id : List ℕ) → held ≡ Some id → owner id ≡ Some name)
+-- a client that holds no connection of which uses are new
+pub other_client : (uses later : List Use) (owner : List ℕ → Option (List ℕ)) (world after : World) (held : Option (List ℕ)) (c : List ℕ × ClientState) → ((P : Transport → Type 0) → OnLatest world c.0 P → OnLatest after c.0 P) → ((id : List ℕ) → held ≡ Some id → owner id ≡ Some c.0 → ⊥)
     → Grows uses later held → IsClientUsing uses owner world c → IsClientUsing later owner after c
-other_client uses later owner world after name held c on differ own grown h = record {
+other_client uses later owner world after held c on apart grown h = record {
   own = h.own;
   numbered = λ id is. let n = h.numbered id is in record {
-    below = λ serial channel used. elim (grown.only id serial channel used) [ inl mine ↦ absurd (apart_names owner name c.0 id differ (own id mine) (h.own id is)) | inr old ↦ n.below serial channel old ];
+    below = λ serial channel used. elim (grown.only id serial channel used) [ inl mine ↦ absurd (apart id mine (h.own id is)) | inr old ↦ n.below serial channel old ];
     waiting = all_weaker _ _ (λ one used. use_of_stays uses later grown.kept id one.frame used) c.1.queue.pending n.waiting;
   };
   ready = λ is. on _ (λ k t at found uncut g same. elim (h.ready is k t at found uncut g same) [
@@ -149,7 +155,7 @@ other_client uses later owner world after name held c on differ own grown h = re
     | inr new ↦ inr (record {
         mine = new.mine;
         other = new.other;
-        unused = λ serial channel used. elim (grown.only (conn_text g.conn) serial channel used) [ inl wrong ↦ apart_names owner name c.0 (conn_text g.conn) differ (own (conn_text g.conn) wrong) new.mine | inr old ↦ new.unused serial channel old ];
+        unused = λ serial channel used. elim (grown.only (conn_text g.conn) serial channel used) [ inl wrong ↦ apart (conn_text g.conn) wrong new.mine | inr old ↦ new.unused serial channel old ];
       })
   ]);
 }
@@ -161,13 +167,15 @@ each_turned uses later owner world after name state on own grown good (c ∷ cs)
   where
     one_by : (b : Bool) → bytes_eq name c.0 ≡ b → IsClientUsing later owner after (c.0, if b then state else c.1)
     one_by true is = subst (λ (n : List ℕ). IsClientUsing later owner after (n, state)) (same_bytes name c.0 is) good
-    one_by false is = other_client uses later owner world after name state.id c (on c.0) is own grown each.0
+    one_by false is = other_client uses later owner world after state.id c (on c.0) (λ id mine theirs. apart_names owner name c.0 id is (own id mine) theirs) grown each.0
 
 turned_client : (uses : List Use) (owner : List ℕ → Option (List ℕ)) (name : List ℕ) (turn : Turn) (world : World) → (t : Turns uses owner world name turn) → IsUsing uses owner world → IsUsing t.later owner (on_client name (λ _. turn.state) world)
 turned_client uses owner name turn world t h = record {
   single = t.single;
   given = λ id serial channel used. elim (t.grown.only id serial channel used) [ inl mine ↦ h.owned id name (t.client.own id mine) | inr old ↦ h.given id serial channel old ];
   owned = h.owned;
+  fed = λ serial channel used. elim (t.grown.only (conn_text feed_conn) serial channel used) [ inl mine ↦ absurd (h.nobody name (t.client.own (conn_text feed_conn) mine)) | inr old ↦ h.fed serial channel old ];
+  nobody = h.nobody;
   apart = h.apart;
   puts = all_weaker _ _ (channel_stays uses t.later t.grown.kept) world.channels h.puts;
   links = all_weaker _ _ (link_stays uses t.later t.grown.kept (names_of world.channels)) world.transports h.links;

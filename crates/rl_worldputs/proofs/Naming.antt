@@ -83,33 +83,36 @@ pub record Leaves (uses : List Use) (world after : World) : Type 0 where
   pub known : (name : List ℕ) (number : ℕ) → HasNumber (names_of world.channels) name number → HasNumber (names_of after.channels) name number
   pub apart : AreDistinct (names_of after.channels)
   pub puts : AllByRecursion (IsChannelUsing uses) after.channels
+  pub fed : after.fed ≡ world.fed
   pub links : after.transports ≡ world.transports
   pub clients : after.clients ≡ world.clients
 
 module _ (uses : List Use) (owner : List ℕ → Option (List ℕ)) (world : World) (h : IsUsing uses owner world) where
-  pub leaves_all : (after : World) → last_number the_range world.book ≤ last_number the_range after.book → after.channels ≡ world.channels → after.transports ≡ world.transports → after.clients ≡ world.clients → Leaves uses world after
-  leaves_all after given channels links clients = record {
+  pub leaves_all : (after : World) → last_number the_range world.book ≤ last_number the_range after.book → after.channels ≡ world.channels → after.fed ≡ world.fed → after.transports ≡ world.transports → after.clients ≡ world.clients → Leaves uses world after
+  leaves_all after given channels fed links clients = record {
     given = given;
     known = λ name number has. subst (λ (cs : Channels). HasNumber (names_of cs) name number) (sym channels) has;
     apart = subst (λ (cs : Channels). AreDistinct (names_of cs)) (sym channels) h.apart;
     puts = subst (AllByRecursion (IsChannelUsing uses)) (sym channels) h.puts;
+    fed = fed;
     links = links;
     clients = clients;
   }
 
   pub leaves_book : (event : BookEvent) → Leaves uses world (with_book_event event world)
-  leaves_book event = leaves_all (with_book_event event world) (last_grows the_range (answered the_range event world.book) world.book) refl refl refl
+  leaves_book event = leaves_all (with_book_event event world) (last_grows the_range (answered the_range event world.book) world.book) refl refl refl refl
 
   names_kept : (number : ℕ) (event : ChannelEvent) → names_of (changed_at number (event_onto event) world.channels) ≡ names_of world.channels
   names_kept number event = map_changed (λ (c : List ℕ × List ChannelEvent). c.0) number (event_onto event) (λ c. refl) world.channels
 
   pub leaves_event : (after : World) (number : ℕ) (event : ChannelEvent) → ((c : List ℕ × List ChannelEvent) → slice_get world.channels number ≡ Some c → IsPutUsing uses c.0 event) → last_number the_range world.book ≤ last_number the_range after.book
-      → after.channels ≡ changed_at number (event_onto event) world.channels → after.transports ≡ world.transports → after.clients ≡ world.clients → Leaves uses world after
-  leaves_event after number event fits given channels links clients = record {
+      → after.channels ≡ changed_at number (event_onto event) world.channels → after.fed ≡ world.fed → after.transports ≡ world.transports → after.clients ≡ world.clients → Leaves uses world after
+  leaves_event after number event fits given channels fed links clients = record {
     given = given;
     known = λ name n has. subst (λ (ns : List (List ℕ)). HasNumber ns name n) (sym (ap names_of channels ∙ names_kept number event)) has;
     apart = subst AreDistinct (sym (ap names_of channels ∙ names_kept number event)) h.apart;
     puts = subst (AllByRecursion (IsChannelUsing uses)) (sym channels) (puts_by (slice_get world.channels number) refl);
+    fed = fed;
     links = links;
     clients = clients;
   }
@@ -121,23 +124,24 @@ module _ (uses : List Use) (owner : List ℕ → Option (List ℕ)) (world : Wor
 
   -- A NAME IS ASKED FOR
 
-  full_leaves : (full : Bool) (name : List ℕ) (after : World) → number_of name (names world) ≡ None → after.book ≡ world.book → after.channels ≡ (if full then world.channels else world.channels ++ (name, []) ∷ []) → after.transports ≡ world.transports → after.clients ≡ world.clients
+  full_leaves : (full : Bool) (name : List ℕ) (after : World) → number_of name (names world) ≡ None → after.book ≡ world.book → after.channels ≡ (if full then world.channels else world.channels ++ (name, []) ∷ []) → after.fed ≡ world.fed → after.transports ≡ world.transports → after.clients ≡ world.clients
       → Leaves uses world after
-  full_leaves true name after none book channels links clients = leaves_all after (let same = ap (last_number the_range) book in omega (arith, same)) channels links clients
-  full_leaves false name after none book channels links clients =
+  full_leaves true name after none book channels fed links clients = leaves_all after (let same = ap (last_number the_range) book in omega (arith, same)) channels fed links clients
+  full_leaves false name after none book channels fed links clients =
       let now : names_of after.channels ≡ names_of world.channels ++ name ∷ [] = ap names_of channels ∙ names_more name world.channels in
       record {
         given = let same = ap (last_number the_range) book in omega (arith, same);
         known = λ other n has. subst (λ (ns : List (List ℕ)). HasNumber ns other n) (sym now) (get_append n other (names_of world.channels) (name ∷ []) has);
         apart = subst AreDistinct (sym now) (distinct_more name (names_of world.channels) (number_none name (names_of world.channels) none) h.apart);
         puts = subst (AllByRecursion (IsChannelUsing uses)) (sym channels) (all_append (IsChannelUsing uses) world.channels ((name, []) ∷ []) h.puts (tt, tt));
-        links = links;
+        fed = fed;
+    links = links;
         clients = clients;
       }
 
   named_leaves : (o : Option ℕ) (name : List ℕ) → number_of name (names world) ≡ o → Leaves uses world (named_by o name world)
-  named_leaves (Some number) name is = leaves_all world (omega arith) refl refl refl
-  named_leaves None name is = full_leaves (is_full (names world)) name (named_by None name world) is refl refl refl refl
+  named_leaves (Some number) name is = leaves_all world (omega arith) refl refl refl refl
+  named_leaves None name is = full_leaves (is_full (names world)) name (named_by None name world) is refl refl refl refl refl
 
   pub leaves_name : (name : List ℕ) → Leaves uses world (with_name name world)
   leaves_name name = named_leaves (number_of name (names world)) name refl

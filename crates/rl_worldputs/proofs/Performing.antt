@@ -83,7 +83,7 @@ serve_resume uses owner world k t key found is none fits telling h =
     (subst (λ (w : Wish). IsActorUsing uses (names_of world.channels) (replied w (reply_to (calls.Book (events.Resume key world.now)) world) world.now t.actor)) (sym is)
     (replied_hand uses (names_of world.channels) (wishes.Resume key) (reply_to (calls.Book (events.Resume key world.now)) world) world.now t.actor tt tt g.of_actor)) g.of_actor)
     (record { of_actor = g.of_actor; sent = g.sent })) link)
-    (λ id name has. given_grows world.book (called (calls.Book (events.Resume key world.now)) world).book id l.given (h.owned id name has))
+    (λ id name has. given_grows world.book (called (calls.Book (events.Resume key world.now)) world).book id l.given (h.owned id name has)) h.nobody
     (λ c told_it is_client. record {
       own = is_client.own;
       numbered = is_client.numbered;
@@ -158,6 +158,8 @@ serve_opens uses owner world k t event given_ key found is none same_answer open
     (record { of_actor = g.of_actor; sent = g.sent })) link)
     (λ id name has. owned_given (IsGivenId (called (calls.Book event) world).book) (conn_text given_.conn) t.owner id name owner (bytes_eq id (conn_text given_.conn)) refl
     (given_.conn, refl, omega (arith, next, more)) (λ m old. given_grows world.book (called (calls.Book event) world).book id l.given (h.owned id m old)) has)
+    (λ name has. owned_given (λ x. x ≡ conn_text feed_conn → ⊥) (conn_text given_.conn) t.owner (conn_text feed_conn) name owner (bytes_eq (conn_text feed_conn) (conn_text given_.conn)) refl
+    (λ same. fresh world.book given_.conn (conn_text feed_conn) next small (feed_conn, refl, omega arith) (sym same)) (λ m is same. h.nobody m is) has refl)
     (λ c told_it is_client. record {
       own = λ id held. owned_apart (conn_text given_.conn) t.owner id c.0 owner (bytes_eq id (conn_text given_.conn)) refl (λ same. fresh world.book given_.conn id next small (h.owned id c.0 (is_client.own id held)) same) (is_client.own id held);
       numbered = is_client.numbered;

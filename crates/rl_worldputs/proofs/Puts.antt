@@ -53,6 +53,8 @@ begins_uses = record {
     single = λ id serial one two used wrong. absurd wrong;
     given = λ id serial channel wrong. absurd wrong;
     owned = λ id name wrong. absurd (cc);
+    fed = λ serial channel wrong. absurd wrong;
+    nobody = λ name wrong. absurd (cc);
     apart = tt;
     puts = tt;
     links = tt;
@@ -73,24 +75,24 @@ always_kept =
 
 -- THE LAW
 
-put_is_use : (uses : List Use) (name : List ℕ) (conn serial : ℕ) → 1 ≤ conn → (event : ChannelEvent) → IsPutUsing uses name event → IsPutBy conn serial event → IsUse uses (conn_text conn) serial name
-put_is_use uses name conn serial real (Put c s body now) is by = subst (λ n. IsUse uses (conn_text conn) n name) by.1 (subst (λ n. 1 ≤ n → IsUse uses (conn_text n) s name) by.0 is real)
-put_is_use uses name conn serial real event is by = absurd by
+put_is_use : (uses : List Use) (name : List ℕ) (conn serial : ℕ) (event : ChannelEvent) → IsPutUsing uses name event → IsPutBy conn serial event → IsUse uses (conn_text conn) serial name
+put_is_use uses name conn serial (Put c s body now) is by = subst (λ n. IsUse uses (conn_text conn) n name) by.1 (subst (λ n. IsUse uses (conn_text n) s name) by.0 is.0)
+put_is_use uses name conn serial event is by = absurd by
 
 -- a channel with a Put has a name, on which the serial is used
-pub use_on : (uses : List Use) (owner : List ℕ → Option (List ℕ)) (world : World) (conn serial number : ℕ) → IsUsing uses owner world → 1 ≤ conn → IsPutOn world conn serial number → (name : List ℕ) × HasNumber (names_of world.channels) name number × IsUse uses (conn_text conn) serial name
-use_on uses owner world conn serial number h real put = by_channel (slice_get world.channels number) refl put
+pub use_on : (uses : List Use) (owner : List ℕ → Option (List ℕ)) (world : World) (conn serial number : ℕ) → IsUsing uses owner world → IsPutOn world conn serial number → (name : List ℕ) × HasNumber (names_of world.channels) name number × IsUse uses (conn_text conn) serial name
+use_on uses owner world conn serial number h put = by_channel (slice_get world.channels number) refl put
   where
     by_channel : (o : Option (List ℕ × List ChannelEvent)) → slice_get world.channels number ≡ o → SomeOf (IsPutBy conn serial) (past_of o) → (name : List ℕ) × HasNumber (names_of world.channels) name number × IsUse uses (conn_text conn) serial name
     by_channel None found put = absurd put
     by_channel (Some c) found put =
         (c.0, name_at number world.channels c found,
-        all_some (IsPutUsing uses c.0) (IsPutBy conn serial) (IsUse uses (conn_text conn) serial c.0) c.1 (put_is_use uses c.0 conn serial real) (all_at (IsChannelUsing uses) number c world.channels found h.puts) put)
+        all_some (IsPutUsing uses c.0) (IsPutBy conn serial) (IsUse uses (conn_text conn) serial c.0) c.1 (put_is_use uses c.0 conn serial) (all_at (IsChannelUsing uses) number c world.channels found h.puts) put)
 
 one_channel : (world : World) → HasUses world → PutsEachOnOne world
-one_channel world h conn serial first second real one two =
-    let a = use_on h.uses h.owner world conn serial first h.fits real one in
-    let b = use_on h.uses h.owner world conn serial second h.fits real two in
+one_channel world h conn serial first second one two =
+    let a = use_on h.uses h.owner world conn serial first h.fits one in
+    let b = use_on h.uses h.owner world conn serial second h.fits two in
     let same : a.0 ≡ b.0 = h.fits.single (conn_text conn) serial a.0 b.0 a.2 b.2 in
     number_once b.0 (names_of world.channels) first second h.fits.apart (subst (λ (x : List ℕ). HasNumber (names_of world.channels) x first) same a.1) b.1
 

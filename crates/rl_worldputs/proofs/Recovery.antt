@@ -19,6 +19,7 @@ use Rattle.rl_clientmodel.specs.Commands.{acted}
 use Rattle.rl_clientmodel.specs.Keys.{recovery_key, serial_held, key_with, may_recover, is_empty, recovered, with_key, before_mark}
 use Rattle.rl_worldmodel.specs.World.{World, Transport, on_transport, on_client, client_in, client_at, if_named, latest}
 use Rattle.rl_worldmodel.specs.Clients.{cut_off, unlinks, cut_unless, cut_where, cut_at, cuts, sent_on, sends, cuts_if, turned, turned_by, obeys, recovered_with, recovered_if, recovered_from}
+use Rattle.rl_worldmodel.specs.Services.{feed_conn}
 use Rattle.rl_worldtold.specs.Tell.{IsTellable, IsTelling}
 use Rattle.rl_worldtold.proofs.Shape.{same_bytes, self_bytes}
 use Rattle.rl_worldtold.proofs.Moves.{steps_unlinked, steps_acted, forgets_no_connecting, forgot_conn}
@@ -178,6 +179,9 @@ module _ (uses : List Use) (owner : List ℕ → Option (List ℕ)) (world : Wor
     single = h.single;
     given = h.given;
     owned = λ x n has. owned_given (IsGivenId world.book) id name x n owner (bytes_eq x id) refl (h.owned id other was) (λ m is. h.owned x m is) has;
+    fed = h.fed;
+    nobody = λ n has. owned_given (λ x. x ≡ conn_text feed_conn → ⊥) id name (conn_text feed_conn) n owner (bytes_eq (conn_text feed_conn) id) refl
+        (λ same. h.nobody other (subst (λ (x : List ℕ). owner x ≡ Some other) same was)) (λ m is same. h.nobody m is) has refl;
     apart = h.apart;
     puts = h.puts;
     links = h.links;

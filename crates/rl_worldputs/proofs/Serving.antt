@@ -107,13 +107,15 @@ given_grows before later id more g = (g.0, g.1, omega (arith, g.2, more))
 -- one transport changes after what a call leaves
 pub serve_using : (uses : List Use) (owner owner_after : List ℕ → Option (List ℕ)) (world mid : World) (k : ℕ) (f : Transport → Transport) → Leaves uses world mid
     → ((t : Transport) → slice_get world.transports k ≡ Some t → IsLinkUsing uses (names_of mid.channels) t → IsLinkUsing uses (names_of mid.channels) (f t))
-    → ((id name : List ℕ) → owner_after id ≡ Some name → IsGivenId mid.book id)
+    → ((id name : List ℕ) → owner_after id ≡ Some name → IsGivenId mid.book id) → ((name : List ℕ) → owner_after (conn_text feed_conn) ≡ Some name → ⊥)
     → ((c : List ℕ × ClientState) → IsTellable world c → IsClientUsing uses owner world c → IsClientUsing uses owner_after (on_transport k f mid) c)
     → IsTelling world → IsUsing uses owner world → IsUsing uses owner_after (on_transport k f mid)
-serve_using uses owner owner_after world mid k f l step owned each telling h = record {
+serve_using uses owner owner_after world mid k f l step owned nobody each telling h = record {
   single = h.single;
   given = λ id serial channel used. given_grows world.book mid.book id l.given (h.given id serial channel used);
   owned = owned;
+  fed = λ serial channel used. let small : serial < world.fed = h.fed serial channel used in omega (arith, small, l.fed);
+  nobody = nobody;
   apart = l.apart;
   puts = l.puts;
   links = subst (λ (ts : List Transport). AllByRecursion (IsLinkUsing uses (names_of mid.channels)) (changed_at k f ts)) (sym l.links) (links_by (slice_get world.transports k) refl);
@@ -152,7 +154,7 @@ serve_steady uses owner world mid k act on l actors owners cuts puts same step t
       of_actor = subst (IsActorUsing uses (names_of mid.channels)) (sym (actors t)) is.of_actor;
       sent = subst (λ (s : actor.State). AllByRecursion (IsSent uses s.holder) (on t).to_service.put) (sym (actors t)) (subst (AllByRecursion (IsSent uses t.actor.holder)) (sym (puts t)) is.sent);
     }))
-    (λ id name has. given_grows world.book mid.book id l.given (h.owned id name has))
+    (λ id name has. given_grows world.book mid.book id l.given (h.owned id name has)) h.nobody
     (λ c told_it is. steady_each uses owner world mid k (λ t. works act (on t)) l (λ t. works_owner act (on t) ∙ owners t) (λ t uncut. sym (works_cut act (on t) ∙ cuts t) ∙ uncut)
     (λ t found. works_holder act (on t) ∙ subst (λ (s : actor.State). (act s).holder ≡ t.actor.holder) (sym (actors t)) (same t found)) c is)
     telling h

@@ -1,6 +1,6 @@
 -- Uses of serials are kept by each step of an actor, and by all else that the service does.
 use Rattle.std.proofs.Common.{◌≡◌, ◌⊎◌, inl, inr, ℕ, zero, suc, ◌+◌, ◌-◌, ◌^◌, ◌≤◌, ◌<◌, Bool, true, false, List, [], ◌∷◌, ◌++◌, length, map, refl, sym, ◌∙◌, ap, subst, arith, cond, true≢false}
-use Rattle.std.specs.Prelude.{Option, Some, None, slice_get, if◌then◌else◌, is_some, bytes_eq}
+use Rattle.std.specs.Prelude.{Option, Some, None, slice_get, if◌then◌else◌, is_some, bytes_eq, max}
 use Rattle.std.specs.List.{AllByRecursion}
 use Rattle.rl_ids.specs.Forms.{conn_text}
 use Rattle.rl_ids.proofs.Forms.{conn_texts_differ}
@@ -44,13 +44,19 @@ use Rattle.rl_worldmodel.specs.Actors.{arrives, put_out_unless, works, with_call
 use Rattle.rl_worldmodel.specs.Services.{feed_conn, expires, reaped, reaps, event_at, ages, fed_at, feeds}
 use Rattle.rl_worldtold.specs.Truth.{Channels, names_of, IsHeldBy, IsTrueTransport, IsTrueWorld}
 use Rattle.rl_worldtold.specs.Tell.{asks, MayTell, IsTellable, IsTelling}
+use Rattle.rl_worldtold.specs.Given.{events_of, IsDecided}
+use Rattle.rl_worldtold.specs.Tell.{IsBelow}
+use Rattle.rl_connbook.proofs.Numbers.{bound_all}
 use Rattle.rl_worldtold.proofs.Shape.{all_at, all_both, changed_one, changed_none, same_bytes, works_actor, works_owner, works_cut}
 use Rattle.rl_worldtold.proofs.Sessions.{IsOfSession, pages_are, polls_are}
 use Rattle.rl_worldtold.proofs.Keys.{resume_key, open_key}
 use Rattle.rl_worldtold.proofs.Service.{resumed_is, opened_is}
 use Rattle.rl_worldtold.proofs.Asks.{IsSteady, IsLater, itself, replied_steady, absorbed_steady, over_steady, took_steady, rested_steady, read_steady, page_steady, session_steady, none_asks, ended_steady}
 use Rattle.rl_worldputs.specs.Uses.{Use, IsUse, IsUseBy, IsSent, IsPublishOf, HasNumber, IsWishUsing, IsActorUsing, IsLinkUsing, IsGivenId, IsNew, MayServe, OnLatest, IsClientUsing, IsPutUsing, IsUsing, HasUses}
-use Rattle.rl_worldputs.proofs.Using.{frame_weaker}
+use Rattle.rl_clientmodel.specs.Commands.{head_on}
+use Rattle.rl_types.specs.declared.frames.Frame.TheVariants as frames
+use Rattle.rl_worldputs.proofs.Using.{push_one, link_stays, channel_stays}
+use Rattle.rl_worldputs.proofs.Clients.{other_client}
 use Rattle.rl_worldputs.proofs.Turned.{changed_latest}
 use Rattle.rl_worldputs.proofs.Recovery.{owned_by, owned_self, owned_given}
 use Rattle.rl_worldputs.proofs.Hands.{FitsHand, replied_hand, absorbed_hand, over_hand, took_hand, rested_hand, read_hand, page_hand, session_hand}
@@ -68,12 +74,19 @@ at_link : (uses : List Use) (owner : List ℕ → Option (List ℕ)) (world : Wo
 at_link uses owner world k t found h = all_at (IsLinkUsing uses (names_of world.channels)) k t world.transports found h.links
 
 -- a Put is of a use on the channel of its number
-put_fits : (uses : List Use) (world : World) (p : Publish) (holder : Holder) (number : ℕ) → IsWishUsing uses (names_of world.channels) (wishes.Put p holder number) → (c : List ℕ × List ChannelEvent) → slice_get world.channels number ≡ Some c
+put_fits : (uses : List Use) (world : World) (p : Publish) (holder : Holder) (number : ℕ) → holder.conn < 2 ^ 32 → IsWishUsing uses (names_of world.channels) (wishes.Put p holder number) → (c : List ℕ × List ChannelEvent) → slice_get world.channels number ≡ Some c
     → IsPutUsing uses c.0 (Put holder.conn p.serial p.body world.now)
-put_fits uses world p holder number is c found real =
+put_fits uses world p holder number small is c found =
     let two : Some p.channel ≡ Some c.0 = sym is.1 ∙ name_at number world.channels c found in
     let same : p.channel ≡ c.0 = cc in
-    subst (λ (x : List ℕ). IsUse uses (conn_text holder.conn) p.serial x) same is.0
+    (subst (λ (x : List ℕ). IsUse uses (conn_text holder.conn) p.serial x) same is.0, small)
+
+-- a connection that an actor serves was given
+holder_small : (world : World) (k : ℕ) (t : Transport) (holder : Holder) → slice_get world.transports k ≡ Some t → t.actor.holder ≡ Some holder → IsDecided world.book → IsTelling world → holder.conn < 2 ^ 32
+holder_small world k t holder found is decided_ telling =
+    let below : holder.conn ≤ last_number the_range world.book = all_at (λ (u : Transport). IsBelow world.book u.actor.holder) k t world.transports found telling.holders holder is in
+    let bound : last_number the_range world.book ≤ max the_range.after the_range.last = subst (λ (b : List Answered). last_number the_range b ≤ max the_range.after the_range.last) (sym decided_) (bound_all the_range (events_of world.book)) in
+    omega (arith, below, bound)
 
 stay_open : (world : World) (k : ℕ) (t : Transport) → slice_get world.transports k ≡ Some t → t.actor.wish ≡ wishes.Open → IsTelling world → HasUses world
     → ((g : Holder) (key : List ℕ) → opening (reply_to (calls.Book (events.Open t.actor.hello.word world.now)) world) ≡ Opens g key → ⊥) → HasUses (performs k (calls.Book (events.Open t.actor.hello.word world.now)) world)
@@ -145,7 +158,7 @@ performs_by world k t (wishes.Join asked number) call found is wants true_ telli
     let same : calls.Chan number (Join asked.serial) ≡ call = cc in
     subst (λ (c : Call). HasUses (performs k c world)) same
     (wish_using world k t (wishes.Join asked number) (calls.Chan number (Join asked.serial)) found is tt refl telling h
-    (leaves_event h.uses h.owner world h.fits (with_event number (Join asked.serial) world) number (Join asked.serial) (λ c at. tt) (omega arith) refl refl refl) tt)
+    (leaves_event h.uses h.owner world h.fits (with_event number (Join asked.serial) world) number (Join asked.serial) (λ c at. tt) (omega arith) refl refl refl refl) tt)
 performs_by world k t (wishes.Begin p holder) call found is wants true_ telling h =
     let same : calls.Book (events.Begin holder.conn holder.generation p.serial) ≡ call = cc in
     subst (λ (c : Call). HasUses (performs k c world)) same (book_using world k t (wishes.Begin p holder) (events.Begin holder.conn holder.generation p.serial) found is tt telling h tt)
@@ -158,7 +171,7 @@ performs_by world k t (wishes.Put p holder number) call found is wants true_ tel
     subst (λ (c : Call). HasUses (performs k c world)) same
     (wish_using world k t (wishes.Put p holder number) (calls.Chan number (Put holder.conn p.serial p.body world.now)) found is tt refl telling h
     (leaves_event h.uses h.owner world h.fits (with_event number (Put holder.conn p.serial p.body world.now) world) number (Put holder.conn p.serial p.body world.now)
-    (λ c at. put_fits h.uses world p holder number (subst (IsWishUsing h.uses (names_of world.channels)) is (at_link h.uses h.owner world k t found h.fits).of_actor.wishing) c at) (omega arith) refl refl refl) tt)
+    (λ c at. put_fits h.uses world p holder number (holder_small world k t holder found (true_held world k t (wishes.Put p holder number) true_ found is) true_.service.book telling) (subst (IsWishUsing h.uses (names_of world.channels)) is (at_link h.uses h.owner world k t found h.fits).of_actor.wishing) c at) (omega arith) refl refl refl refl) tt)
 performs_by world k t (wishes.Finish p holder outcome) call found is wants true_ telling h =
     let same : calls.Book (events.End holder.conn holder.generation p.serial outcome) ≡ call = cc in
     subst (λ (c : Call). HasUses (performs k c world)) same (book_using world k t (wishes.Finish p holder outcome) (events.End holder.conn holder.generation p.serial outcome) found is tt telling h tt)
@@ -172,7 +185,7 @@ works_using : (world : World) (k : ℕ) (act : actor.State → actor.State) (on 
 works_using world k act on actors owners cuts puts steady telling h step = record {
   uses = h.uses;
   owner = h.owner;
-  fits = serve_steady h.uses h.owner world world k act on (leaves_all h.uses h.owner world h.fits world (omega arith) refl refl refl) actors owners cuts puts (λ t found. (steady t.actor).holder) step telling h.fits;
+  fits = serve_steady h.uses h.owner world world k act on (leaves_all h.uses h.owner world h.fits world (omega arith) refl refl refl refl) actors owners cuts puts (λ t found. (steady t.actor).holder) step telling h.fits;
 }
 
 steps_by : (world : World) (k : ℕ) (t : Transport) (o : Option Call) (ended cut : Bool) (next : Option Frame) (rests : Bool) → slice_get world.transports k ≡ Some t → next_call world.now t.actor ≡ o → slice_get t.to_service.put t.to_service.got ≡ next → IsTrueWorld world → IsTelling world → HasUses world
@@ -205,7 +218,7 @@ session_using : (world : World) (k number : ℕ) (event : ChannelEvent) → IsTe
 session_using world k number event telling h fits steady good = record {
   uses = h.uses;
   owner = h.owner;
-  fits = serve_call h.uses h.owner world k (calls.Chan number event) (leaves_event h.uses h.owner world h.fits (with_event number event world) number event fits (omega arith) refl refl refl)
+  fits = serve_call h.uses h.owner world k (calls.Chan number event) (leaves_event h.uses h.owner world h.fits (with_event number event world) number event fits (omega arith) refl refl refl refl)
       (λ t found. (absorbed_steady t.actor.ended (calls.Chan number event) (reply_to (calls.Chan number event) world) world.now t.actor (steady t)).holder)
       (λ t found is. absorbed_hand h.uses (names_of (with_event number event world).channels) t.actor.ended (calls.Chan number event) (reply_to (calls.Chan number event) world) world.now t.actor (good (names_of (with_event number event world).channels) t is) is)
       telling h.fits;
@@ -252,6 +265,8 @@ leaves_using world after h l = record {
     single = h.fits.single;
     given = λ id serial channel used. given_grows world.book after.book id l.given (h.fits.given id serial channel used);
     owned = λ id name has. given_grows world.book after.book id l.given (h.fits.owned id name has);
+    fed = λ serial channel used. let small : serial < world.fed = h.fits.fed serial channel used in omega (arith, small, l.fed);
+    nobody = h.fits.nobody;
     apart = l.apart;
     puts = l.puts;
     links = subst (AllByRecursion (IsLinkUsing h.uses (names_of after.channels))) (sym l.links) (all_weaker _ _ (link_named h.uses (names_of world.channels) (names_of after.channels) l.known) world.transports h.fits.links);
@@ -264,27 +279,65 @@ leaves_using world after h l = record {
 }
 
 pub passes_using : (world : World) (span : ℕ) → HasUses world → HasUses (record world { now = world.now + span })
-passes_using world span h = leaves_using world (record world { now = world.now + span }) h (leaves_all h.uses h.owner world h.fits (record world { now = world.now + span }) (omega arith) refl refl refl)
+passes_using world span h = leaves_using world (record world { now = world.now + span }) h (leaves_all h.uses h.owner world h.fits (record world { now = world.now + span }) (omega arith) refl refl refl refl)
 
 pub expires_using : (world : World) → HasUses world → HasUses (expires world)
-expires_using world h = leaves_using world (expires world) h (leaves_all h.uses h.owner world h.fits (expires world) (last_grows the_range (answered the_range (events.Expire world.now) world.book) world.book) refl refl refl)
+expires_using world h = leaves_using world (expires world) h (leaves_all h.uses h.owner world h.fits (expires world) (last_grows the_range (answered the_range (events.Expire world.now) world.book) world.book) refl refl refl refl)
 
 pub reaped_using : (world : World) (queue : List (ℕ × ℕ)) → HasUses world → HasUses (reaped queue world)
 reaped_using world [] h = h
 reaped_using world (pair ∷ more) h =
-    leaves_using world (reaped (pair ∷ more) world) h (leaves_event h.uses h.owner world h.fits (reaped (pair ∷ more) world) pair.1 (Gone pair.0 world.now) (λ c at. tt) (omega arith) refl refl refl)
+    leaves_using world (reaped (pair ∷ more) world) h (leaves_event h.uses h.owner world h.fits (reaped (pair ∷ more) world) pair.1 (Gone pair.0 world.now) (λ c at. tt) (omega arith) refl refl refl refl)
 
 pub aged_using : (world : World) (o : Option ℕ) → HasUses world → HasUses (event_at o (Tick world.now) world)
 aged_using world None h = h
 aged_using world (Some number) h =
-    leaves_using world (event_at (Some number) (Tick world.now) world) h (leaves_event h.uses h.owner world h.fits (event_at (Some number) (Tick world.now) world) number (Tick world.now) (λ c at. tt) (omega arith) refl refl refl)
+    leaves_using world (event_at (Some number) (Tick world.now) world) h (leaves_event h.uses h.owner world h.fits (event_at (Some number) (Tick world.now) world) number (Tick world.now) (λ c at. tt) (omega arith) refl refl refl refl)
 
 pub names_using : (world : World) (name : List ℕ) → HasUses world → HasUses (with_name name world)
 names_using world name h = leaves_using world (with_name name world) h (leaves_name h.uses h.owner world h.fits name)
 
--- an entry that no client puts is of no connection
+-- AN ENTRY THAT NO CLIENT PUTS
+
+-- its serial is used on a channel
+record IsFedOn (world : World) (name : List ℕ) : Type 0 where
+  uses : List Use
+  owner : List ℕ → Option (List ℕ)
+  fits : IsUsing uses owner (record world { fed = world.fed + 1 })
+  used : IsUse uses (conn_text feed_conn) world.fed name
+
+feed_uses : (world : World) (name : List ℕ) → HasUses world → IsFedOn world name
+feed_uses world name h =
+    let p = push_one h.uses (conn_text feed_conn) (record { pending = []; next = world.fed }) (frames.Message (head_on name) []) h.fits.single (record { below = h.fits.fed; waiting = tt }) in
+    record {
+      uses = p.later;
+      owner = h.owner;
+      fits = record {
+        single = p.single;
+        given = λ id serial channel used. elim (p.grown.only id serial channel used) [ inl mine ↦ (let same : conn_text feed_conn ≡ id = cc in (feed_conn, same, omega arith)) | inr old ↦ h.fits.given id serial channel old ];
+        owned = h.fits.owned;
+        fed = p.numbered.below;
+        nobody = h.fits.nobody;
+        apart = h.fits.apart;
+        puts = all_weaker _ _ (channel_stays h.uses p.later p.grown.kept) world.channels h.fits.puts;
+        links = all_weaker _ _ (link_stays h.uses p.later p.grown.kept (names_of world.channels)) world.transports h.fits.links;
+        each = all_weaker _ _ (λ c is. other_client h.uses p.later h.owner world (record world { fed = world.fed + 1 }) (Some (conn_text feed_conn)) c (λ P on. on)
+            (λ id mine theirs. h.fits.nobody c.0 (let same : conn_text feed_conn ≡ id = cc in subst (λ (x : List ℕ). h.owner x ≡ Some c.0) (sym same) theirs)) p.grown is) world.clients h.fits.each;
+      };
+      used = p.sent.0 world.fed refl;
+    }
+
+fed_on : (world : World) (number : ℕ) (body : Body) (o : Option (List ℕ × List ChannelEvent)) → slice_get world.channels number ≡ o → HasUses world → HasUses (fed_at (Some number) body world)
+fed_on world number body None found h =
+    let g = feed_uses world [] h in
+    leaves_using (record world { fed = world.fed + 1 }) (fed_at (Some number) body world) (record { uses = g.uses; owner = g.owner; fits = g.fits })
+    (leaves_event g.uses g.owner (record world { fed = world.fed + 1 }) g.fits (fed_at (Some number) body world) number (Put feed_conn world.fed body world.now) (λ c at. let two : None ≡ Some c = sym found ∙ at in absurd (cc)) (omega arith) refl refl refl refl)
+fed_on world number body (Some d) found h =
+    let g = feed_uses world d.0 h in
+    leaves_using (record world { fed = world.fed + 1 }) (fed_at (Some number) body world) (record { uses = g.uses; owner = g.owner; fits = g.fits })
+    (leaves_event g.uses g.owner (record world { fed = world.fed + 1 }) g.fits (fed_at (Some number) body world) number (Put feed_conn world.fed body world.now)
+    (λ c at. let two : Some d ≡ Some c = sym found ∙ at in let same : d ≡ c = cc in (subst (λ (e : List ℕ × List ChannelEvent). IsUse g.uses (conn_text feed_conn) world.fed e.0) same g.used, omega arith)) (omega arith) refl refl refl refl)
+
 pub fed_using : (world : World) (o : Option ℕ) (body : Body) → HasUses world → HasUses (fed_at o body world)
 fed_using world None body h = h
-fed_using world (Some number) body h =
-    leaves_using world (fed_at (Some number) body world) h
-    (leaves_event h.uses h.owner world h.fits (fed_at (Some number) body world) number (Put feed_conn world.fed body world.now) (λ c at real. absurd (omega (arith, real))) (omega arith) refl refl refl)
+fed_using world (Some number) body h = fed_on world number body (slice_get world.channels number) refl h

@@ -73,7 +73,7 @@ module _ (uses later : List Use) (kept : (i : List ℕ) (serial : ℕ) (channel 
   }
 
   put_stays : (name : List ℕ) (event : ChannelEvent) → IsPutUsing uses name event → IsPutUsing later name event
-  put_stays name (Put conn serial body now) is = λ real. kept (conn_text conn) serial name (is real)
+  put_stays name (Put conn serial body now) is = (kept (conn_text conn) serial name is.0, is.1)
   put_stays name event is = tt
 
   pub channel_stays : (c : List ℕ × List ChannelEvent) → IsChannelUsing uses c → IsChannelUsing later c

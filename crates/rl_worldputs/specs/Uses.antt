@@ -1,7 +1,7 @@
 -- Why a serial of a connection is put on one channel alone, as what every action keeps: a client gives each serial of its
 -- connection to one frame, no other client gives serials of that connection, and what the service has in hand and puts has
 -- the serial and the channel of such a frame.
-use Rattle.std.specs.Prelude.{◌≡◌, ℕ, ◌≤◌, ◌<◌, ⊤, false, List, Option, Some, ◌⊎◌, slice_get}
+use Rattle.std.specs.Prelude.{◌≡◌, ℕ, ◌≤◌, ◌<◌, ◌^◌, ⊤, false, List, Option, Some, ◌⊎◌, slice_get}
 use Rattle.std.specs.List.{AllByRecursion}
 use Rattle.rl_ids.specs.Forms.{conn_text}
 use Rattle.rl_types.specs.declared.states.ConnState.TheVariants as conn
@@ -22,6 +22,7 @@ use Rattle.rl_actormodel.specs.declared.parts.Wish.{Wish}
 use Rattle.rl_actormodel.specs.declared.parts.Wish.TheVariants as wishes
 use Rattle.rl_actormodel.specs.State as actor
 use Rattle.rl_worldmodel.specs.World.{World, Transport, the_range, latest}
+use Rattle.rl_worldmodel.specs.Services.{feed_conn}
 use Rattle.rl_worldtold.specs.Truth.{names_of, OnHolder}
 use Rattle.rl_worldtold.specs.Listed.{AreDistinct}
 
@@ -136,7 +137,7 @@ pub record IsLinkUsing (uses : List Use) (names : List (List ℕ)) (t : Transpor
 -- WHAT CHANNELS TOOK
 
 abbrev pub IsPutUsing : List Use → List ℕ → ChannelEvent → Type 0
-IsPutUsing uses name (Put conn serial body now) = 1 ≤ conn → IsUse uses (conn_text conn) serial name
+IsPutUsing uses name (Put conn serial body now) = IsUse uses (conn_text conn) serial name × (conn < 2 ^ 32)
 IsPutUsing uses name event = ⊤
 
 abbrev pub IsChannelUsing : List Use → List ℕ × List ChannelEvent → Type 0
@@ -149,6 +150,9 @@ pub record IsUsing (uses : List Use) (owner : List ℕ → Option (List ℕ)) (w
   pub single : AreSingle uses
   pub given : (id : List ℕ) (serial : ℕ) (channel : List ℕ) → IsUse uses id serial channel → IsGivenId world.book id
   pub owned : (id name : List ℕ) → owner id ≡ Some name → IsGivenId world.book id
+  -- those of the connection of entries that no client puts, which no client holds
+  pub fed : AreBelow uses (conn_text feed_conn) world.fed
+  pub nobody : (name : List ℕ) → owner (conn_text feed_conn) ≡ Some name → ⊥
   pub apart : AreDistinct (names_of world.channels)
   pub puts : AllByRecursion (IsChannelUsing uses) world.channels
   pub links : AllByRecursion (IsLinkUsing uses (names_of world.channels)) world.transports
