@@ -10,3 +10,4 @@ pub mod Serving
 pub mod Performing
 pub mod Stepping
 pub mod Puts
+pub mod Refusing
