@@ -11,3 +11,4 @@ pub mod Performing
 pub mod Stepping
 pub mod Puts
 pub mod Refusing
+pub mod Refusals

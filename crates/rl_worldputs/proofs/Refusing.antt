@@ -30,7 +30,8 @@ use Rattle.rl_events.specs.declared.calls.End.TheVariants as ends
 use Rattle.rl_events.specs.declared.calls.Call.{Call}
 use Rattle.rl_events.specs.declared.calls.Reply.{Reply}
 use Rattle.rl_names.specs.Names.{at, with_entry}
-use Rattle.rl_pages.specs.State.{page_frame, page_absorbed}
+use Rattle.rl_pages.specs.State.{Sequences, page_frame, page_absorbed, may_end, is_complete, end_pages, end_frames}
+use Rattle.rl_events.specs.declared.channel.ChannelReply.TheVariants as channel
 use Rattle.rl_actormodel.specs.declared.parts.Asked.{Asked}
 use Rattle.rl_actormodel.specs.declared.parts.Publish.{Publish}
 use Rattle.rl_actormodel.specs.declared.parts.Holder.{Holder}
@@ -266,3 +267,35 @@ module _ (R : ℕ → ℕ → ℕ → Type 0) (G : ℕ → ℕ → List ℕ → 
   entries_so : (name : List ℕ) (epoch : ℕ) (list : List Entry) (holder : Option Holder) → AllByRecursion (IsFrameSo R holder) (map (entry_frame name epoch) list)
   entries_so name epoch [] holder = tt
   entries_so name epoch (e ∷ list) holder = (body_so (reads.entry_head name epoch e) e.body holder, entries_so name epoch list holder)
+
+  end_pages_so : (members objects : Bool) (one two : Frame) (holder : Option Holder) → IsFrameSo R holder one → IsFrameSo R holder two → AllByRecursion (IsFrameSo R holder) ((if members then one ∷ [] else []) ++ (if objects then two ∷ [] else []))
+  end_pages_so members objects one two holder p q =
+      all_append _ (if members then one ∷ [] else []) (if objects then two ∷ [] else []) (list_if members holder (one ∷ []) (p, tt)) (list_if objects holder (two ∷ []) (q, tt))
+
+  ends_so : (session : Session) (holder : Option Holder) → AllByRecursion (IsFrameSo R holder) (ends_here session)
+  ends_so session holder =
+      list_if (may_end session.position session.pages) holder (end_frames session.pages)
+      (list_if (is_complete session.pages) holder (end_pages session.pages) (end_pages_so session.pages.members.asked session.pages.objects.asked _ _ holder tt tt))
+
+  page_frame_so : (reply : ChannelReply) (pages : Sequences) (holder : Option Holder) → AllByRecursion (IsFrameSo R holder) (option_to_list (page_frame reply pages))
+  page_frame_so (channel.Members items last head) pages holder = (tt, tt)
+  page_frame_so (channel.Objects states last head) pages holder = (tt, tt)
+  page_frame_so reply pages holder = tt
+
+  pub read_so : (name : List ℕ) (session : Session) (r : Reading) (now : ℕ) (s : State) → IsActorSo R G s → IsActorSo R G (read_by name session r now s)
+  read_so name session (Came list) now s h =
+      puts_so (map (entry_frame name session.epoch) list ++ ends_here (moved_on (length list) session)) now (record s { sessions = with_entry name (ended_here (moved_on (length list) session)) s.sessions })
+      (all_append _ (map (entry_frame name session.epoch) list) (ends_here (moved_on (length list) session)) (entries_so name session.epoch list s.holder) (ends_so (moved_on (length list) session) s.holder))
+      (record { wishing = h.wishing; out = h.out })
+  read_so name session (Behind first) now s h = ended_so (ends.Lagged session.position first) s h
+  read_so name session Unread now s h = h
+
+  pub page_so : (name : List ℕ) (session : Session) (o : Option ChannelReply) (now : ℕ) (s : State) → IsActorSo R G s → IsActorSo R G (page_by name session o now s)
+  page_so name session None now s h = h
+  page_so name session (Some reply) now s h =
+      puts_so (option_to_list (page_frame reply session.pages)) now (record s { sessions = with_entry name (paged (page_absorbed reply session.pages) session) s.sessions })
+      (page_frame_so reply session.pages s.holder) (record { wishing = h.wishing; out = h.out })
+
+  pub session_so : (act : List ℕ → Session → State → State) (o : Option (List ℕ × Session)) (s : State) → ((name : List ℕ) (session : Session) → IsActorSo R G (act name session s)) → IsActorSo R G s → IsActorSo R G (on_session act o s)
+  session_so act None s each h = h
+  session_so act (Some e) s each h = each e.0 e.1

@@ -62,7 +62,7 @@ out_service : (b : Bool) (frames : List Frame) (t : Transport) → (put_out_unle
 out_service true frames t = refl
 out_service false frames t = refl
 
-works_service : (act : actor.State → actor.State) (t : Transport) → (works act t).to_service ≡ t.to_service
+pub works_service : (act : actor.State → actor.State) (t : Transport) → (works act t).to_service ≡ t.to_service
 works_service act t = out_service t.cut (act t.actor).waiting (record t { actor = act t.actor })
 
 -- a connection stays, or the first one comes
