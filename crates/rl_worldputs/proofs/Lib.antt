@@ -12,3 +12,4 @@ pub mod Stepping
 pub mod Puts
 pub mod Refusing
 pub mod Refusals
+pub mod Refused

@@ -155,33 +155,33 @@ lasts world after decides full got = record {
 -- FRAMES THAT WERE TAKEN UP
 
 module _ {X : Type 0} where
-  some_at : (P : X → Type 0) (k : ℕ) (f : X → X) (xs : List X) → ((x : X) → slice_get xs k ≡ Some x → P x → P (f x)) → SomeOf P xs → SomeOf P (changed_at k f xs)
+  pub some_at : (P : X → Type 0) (k : ℕ) (f : X → X) (xs : List X) → ((x : X) → slice_get xs k ≡ Some x → P x → P (f x)) → SomeOf P xs → SomeOf P (changed_at k f xs)
   some_at P k f [] step some = absurd some
   some_at P zero f (x ∷ xs) step (inl p) = inl (step x refl p)
   some_at P zero f (x ∷ xs) step (inr some) = inr some
   some_at P (suc k) f (x ∷ xs) step (inl p) = inl p
   some_at P (suc k) f (x ∷ xs) step (inr some) = inr (some_at P k f xs step some)
 
-  some_take_more : (P : X → Type 0) (n : ℕ) (xs ys : List X) → SomeOf P (take n xs) → SomeOf P (take n (xs ++ ys))
+  pub some_take_more : (P : X → Type 0) (n : ℕ) (xs ys : List X) → SomeOf P (take n xs) → SomeOf P (take n (xs ++ ys))
   some_take_more P zero xs ys some = absurd some
   some_take_more P (suc n) [] ys some = absurd some
   some_take_more P (suc n) (x ∷ xs) ys (inl p) = inl p
   some_take_more P (suc n) (x ∷ xs) ys (inr some) = inr (some_take_more P n xs ys some)
 
-  some_take_twice : (P : X → Type 0) (n : ℕ) (xs : List X) → SomeOf P (take n xs) → SomeOf P (take n (take n xs))
+  pub some_take_twice : (P : X → Type 0) (n : ℕ) (xs : List X) → SomeOf P (take n xs) → SomeOf P (take n (take n xs))
   some_take_twice P zero xs some = absurd some
   some_take_twice P (suc n) [] some = absurd some
   some_take_twice P (suc n) (x ∷ xs) (inl p) = inl p
   some_take_twice P (suc n) (x ∷ xs) (inr some) = inr (some_take_twice P n xs some)
 
-  some_take_next : (P : X → Type 0) (n : ℕ) (xs : List X) → SomeOf P (take n xs) → SomeOf P (take (suc n) xs)
+  pub some_take_next : (P : X → Type 0) (n : ℕ) (xs : List X) → SomeOf P (take n xs) → SomeOf P (take (suc n) xs)
   some_take_next P zero xs some = absurd some
   some_take_next P (suc n) [] some = absurd some
   some_take_next P (suc n) (x ∷ xs) (inl p) = inl p
   some_take_next P (suc n) (x ∷ xs) (inr some) = inr (some_take_next P n xs some)
 
   -- the one that is got
-  some_take_new : (P : X → Type 0) (n : ℕ) (x : X) (xs : List X) → slice_get xs n ≡ Some x → P x → SomeOf P (take (suc n) xs)
+  pub some_take_new : (P : X → Type 0) (n : ℕ) (x : X) (xs : List X) → slice_get xs n ≡ Some x → P x → SomeOf P (take (suc n) xs)
   some_take_new P n x [] found p = absurd (cc)
   some_take_new P zero x (y ∷ xs) found p = let same : y ≡ x = cc in inl (subst P (sym same) p)
   some_take_new P (suc n) x (y ∷ xs) found p = inr (some_take_new P n x xs found p)
@@ -191,7 +191,7 @@ held_first before after conn (inl none) is = absurd (subst (λ (o : Option Holde
 held_first before after conn (inr same) is = subst (λ (o : Option Holder). OnHolder o (λ h. h.conn ≡ conn)) (sym same) is
 
 -- an actor that works has taken up what it had
-works_taken : (act : actor.State → actor.State) (t : Transport) (conn serial : ℕ) (channel : List ℕ) → IsSameOrFirst t.actor.holder (act t.actor).holder → HasTaken conn serial channel t → HasTaken conn serial channel (works act t)
+pub works_taken : (act : actor.State → actor.State) (t : Transport) (conn serial : ℕ) (channel : List ℕ) → IsSameOrFirst t.actor.holder (act t.actor).holder → HasTaken conn serial channel t → HasTaken conn serial channel (works act t)
 works_taken act t conn serial channel holds is =
     (subst (λ (o : Option Holder). OnHolder o (λ h. h.conn ≡ conn)) (sym (works_holder act t)) (held_first t.actor.holder (act t.actor).holder conn holds is.0),
     subst (λ (way : Way). SomeOf (IsOf serial channel) (take way.got way.put)) (sym (works_service act t)) is.1)
@@ -202,7 +202,7 @@ out_way : (R : ℕ → ℕ → ℕ → Type 0) (holder : Option Holder) (cut : B
 out_way R holder true list t all more = all
 out_way R holder false list t all more = all_append _ t.to_client.put list all more
 
-works_so : (R : ℕ → ℕ → ℕ → Type 0) (G : ℕ → ℕ → List ℕ → Type 0) (act : actor.State → actor.State) (t : Transport) → IsSameOrFirst t.actor.holder (act t.actor).holder → IsActorSo R G (act t.actor) → AllByRecursion (IsFrameSo R t.actor.holder) t.to_client.put → IsLinkSo R G (works act t)
+pub works_so : (R : ℕ → ℕ → ℕ → Type 0) (G : ℕ → ℕ → List ℕ → Type 0) (act : actor.State → actor.State) (t : Transport) → IsSameOrFirst t.actor.holder (act t.actor).holder → IsActorSo R G (act t.actor) → AllByRecursion (IsFrameSo R t.actor.holder) t.to_client.put → IsLinkSo R G (works act t)
 works_so R G act t holds good on_way = record {
   of_actor = subst (IsActorSo R G) (sym (works_actor act t)) (record { wishing = good.wishing; out = tt });
   on_way = subst (λ (o : Option Holder). AllByRecursion (IsFrameSo R o) (works act t).to_client.put) (sym (works_holder act t))
