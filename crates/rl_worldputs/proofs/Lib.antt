@@ -13,3 +13,4 @@ pub mod Puts
 pub mod Refusing
 pub mod Refusals
 pub mod Refused
+pub mod Refuse

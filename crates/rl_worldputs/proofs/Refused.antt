@@ -98,7 +98,7 @@ use Rattle.rl_worldputs.proofs.Refusals.{Lasts, lasts, end_stays, link_stays_so,
 
 -- CHANNELS
 
-decides_called : (call : Call) (world : World) (conn serial code : ℕ) → Decides world.channels conn serial (IsRefused code) → Decides (called call world).channels conn serial (IsRefused code)
+pub decides_called : (call : Call) (world : World) (conn serial code : ℕ) → Decides world.channels conn serial (IsRefused code) → Decides (called call world).channels conn serial (IsRefused code)
 decides_called (calls.Book event) world conn serial code is = is
 decides_called (calls.Dir (Ask name)) world conn serial code is = named (number_of name (names world)) (is_full (names world)) refl
   where
@@ -109,7 +109,7 @@ decides_called (calls.Dir (Ask name)) world conn serial code is = named (number_
 decides_called (calls.Dir Names) world conn serial code is = is
 decides_called (calls.Chan number event) world conn serial code is = changed_some _ number (event_onto event) (λ c some. inr some) world.channels is
 
-full_called : (call : Call) (world : World) → is_full (names_of world.channels) ≡ true → names_of (called call world).channels ≡ names_of world.channels
+pub full_called : (call : Call) (world : World) → is_full (names_of world.channels) ≡ true → names_of (called call world).channels ≡ names_of world.channels
 full_called (calls.Book event) world full = refl
 full_called (calls.Dir (Ask name)) world full = named (number_of name (names world))
   where
@@ -119,7 +119,7 @@ full_called (calls.Dir (Ask name)) world full = named (number_of name (names wor
 full_called (calls.Dir Names) world full = refl
 full_called (calls.Chan number event) world full = map_changed (λ (c : List ℕ × List ChannelEvent). c.0) number (event_onto event) (λ c. refl) world.channels
 
-called_links : (call : Call) (world : World) → (called call world).transports ≡ world.transports
+pub called_links : (call : Call) (world : World) → (called call world).transports ≡ world.transports
 called_links (calls.Book event) world = refl
 called_links (calls.Dir (Ask name)) world = (name_beside name world).transports
 called_links (calls.Dir Names) world = refl
@@ -127,10 +127,10 @@ called_links (calls.Chan number event) world = refl
 
 -- ONE TRANSPORT CHANGES
 
-abbrev AreEndsSo : World → List Answered → Type 0
+abbrev pub AreEndsSo : World → List Answered → Type 0
 AreEndsSo world book = AllByRecursion (λ (a : Answered). IsEndSo (IsRefusal world.channels world.transports) a.event) book
 
-serve_so : (world mid : World) (k : ℕ) (f : Transport → Transport) → mid.transports ≡ world.transports → Lasts world (on_transport k f mid) → AreEndsSo (on_transport k f mid) mid.book
+pub serve_so : (world mid : World) (k : ℕ) (f : Transport → Transport) → mid.transports ≡ world.transports → Lasts world (on_transport k f mid) → AreEndsSo (on_transport k f mid) mid.book
     → ((t : Transport) → slice_get world.transports k ≡ Some t → IsLinkSo (IsRefusal mid.channels (changed_at k f mid.transports)) (IsTakenUp (changed_at k f mid.transports)) t → IsLinkSo (IsRefusal mid.channels (changed_at k f mid.transports)) (IsTakenUp (changed_at k f mid.transports)) (f t))
     → IsRefusing world → IsRefusing (on_transport k f mid)
 serve_so world mid k f same l ends step h = record {
@@ -146,7 +146,7 @@ serve_so world mid k f same l ends step h = record {
     links_by (Some t) found = changed_one _ k f t (step t found (all_at _ k t world.transports found before)) world.transports found before
 
 -- the ends that the book was told stay so
-ends_last : (world after : World) → Lasts world after → IsRefusing world → AreEndsSo after world.book
+pub ends_last : (world after : World) → Lasts world after → IsRefusing world → AreEndsSo after world.book
 ends_last world after l h = all_weaker _ _ (λ a is. end_stays (IsRefusal world.channels world.transports) (IsRefusal after.channels after.transports) (IsTakenUp world.transports) (IsTakenUp after.transports) l.so l.got a.event is) world.book h.ends
 
 ends_called : (call : Call) (world after : World) → Lasts world after → ((event : BookEvent) → call ≡ calls.Book event → IsEndSo (IsRefusal after.channels after.transports) event) → IsRefusing world → AreEndsSo after (called call world).book
@@ -158,19 +158,19 @@ ends_called (calls.Chan number event) world after l new h = ends_last world afte
 -- CALLS
 
 -- how long what is so lasts in a call
-call_lasts : (world : World) (k : ℕ) (call : Call) → ((t : Transport) → slice_get world.transports k ≡ Some t → IsSameOrFirst t.actor.holder (absorbed call (reply_to call world) world.now t.actor).holder) → Lasts world (performs k call world)
+pub call_lasts : (world : World) (k : ℕ) (call : Call) → ((t : Transport) → slice_get world.transports k ≡ Some t → IsSameOrFirst t.actor.holder (absorbed call (reply_to call world) world.now t.actor).holder) → Lasts world (performs k call world)
 call_lasts world k call holds =
     lasts world (performs k call world) (decides_called call world) (full_called call world)
     (λ conn serial channel is. subst (λ (ts : List Transport). IsTakenUp (changed_at k (absorbs call world) ts) conn serial channel) (sym (called_links call world))
     (some_at (HasTaken conn serial channel) k (absorbs call world) world.transports (λ t found has. works_taken (absorbed call (reply_to call world) world.now) (with_call call world t) conn serial channel (holds t found) has) is))
 
-abbrev RefusalAfter : ℕ → Call → World → ℕ → ℕ → ℕ → Type 0
+abbrev pub RefusalAfter : ℕ → Call → World → ℕ → ℕ → ℕ → Type 0
 RefusalAfter k call world = IsRefusal (performs k call world).channels (performs k call world).transports
 
-abbrev TakenAfter : ℕ → Call → World → ℕ → ℕ → List ℕ → Type 0
+abbrev pub TakenAfter : ℕ → Call → World → ℕ → ℕ → List ℕ → Type 0
 TakenAfter k call world = IsTakenUp (performs k call world).transports
 
-perform_so : (world : World) (k : ℕ) (call : Call) → (holds : (t : Transport) → slice_get world.transports k ≡ Some t → IsSameOrFirst t.actor.holder (absorbed call (reply_to call world) world.now t.actor).holder)
+pub perform_so : (world : World) (k : ℕ) (call : Call) → (holds : (t : Transport) → slice_get world.transports k ≡ Some t → IsSameOrFirst t.actor.holder (absorbed call (reply_to call world) world.now t.actor).holder)
     → ((event : BookEvent) → call ≡ calls.Book event → IsEndSo (RefusalAfter k call world) event)
     → ((t : Transport) → slice_get world.transports k ≡ Some t → IsActorSo (RefusalAfter k call world) (TakenAfter k call world) t.actor → IsActorSo (RefusalAfter k call world) (TakenAfter k call world) (absorbed call (reply_to call world) world.now t.actor))
     → IsRefusing world → IsRefusing (performs k call world)
@@ -180,7 +180,7 @@ perform_so world k call holds new good h =
     (λ t found link. works_so (RefusalAfter k call world) (TakenAfter k call world) (absorbed call (reply_to call world) world.now) (with_call call world t) (holds t found) (good t found link.of_actor) link.on_way) h
 
 -- the call of a wish
-wish_so : (world : World) (k : ℕ) (t : Transport) (wish : Wish) (call : Call) → slice_get world.transports k ≡ Some t → t.actor.wish ≡ wish → IsHeldBy t.actor.holder wish → IsSameOrFirst t.actor.holder (absorbed call (reply_to call world) world.now t.actor).holder
+pub wish_so : (world : World) (k : ℕ) (t : Transport) (wish : Wish) (call : Call) → slice_get world.transports k ≡ Some t → t.actor.wish ≡ wish → IsHeldBy t.actor.holder wish → IsSameOrFirst t.actor.holder (absorbed call (reply_to call world) world.now t.actor).holder
     → reads.answered call (reply_to call world) world.now t.actor ≡ replied t.actor.wish (reply_to call world) world.now t.actor
     → ((event : BookEvent) → call ≡ calls.Book event → IsEndSo (RefusalAfter k call world) event) → FitsSo (RefusalAfter k call world) (TakenAfter k call world) wish (reply_to call world) → IsRefusing world → IsRefusing (performs k call world)
 wish_so world k t wish call found is held holds same new fits h =
@@ -194,7 +194,7 @@ wish_so world k t wish call found is held holds same new fits h =
     (replied_so (RefusalAfter k call world) (TakenAfter k call world) wish (reply_to call world) world.now t.actor held fits (subst (IsWishSo (RefusalAfter k call world) (TakenAfter k call world)) is g.wishing) g)) g) good) h
 
 -- of a wish for no connection
-later_holds : (world : World) (t : Transport) (wish : Wish) (call : Call) → t.actor.wish ≡ wish → IsLater wish → reads.answered call (reply_to call world) world.now t.actor ≡ replied t.actor.wish (reply_to call world) world.now t.actor
+pub later_holds : (world : World) (t : Transport) (wish : Wish) (call : Call) → t.actor.wish ≡ wish → IsLater wish → reads.answered call (reply_to call world) world.now t.actor ≡ replied t.actor.wish (reply_to call world) world.now t.actor
     → IsSameOrFirst t.actor.holder (absorbed call (reply_to call world) world.now t.actor).holder
 later_holds world t wish call is later same =
     inr (absorbed_steady t.actor.ended call (reply_to call world) world.now t.actor
@@ -213,13 +213,13 @@ end_refused R conn serial code (events.End c generation s (Some (Refused k))) is
     subst (R conn serial) same (subst (λ m. R conn m k) of.1 (subst (λ m. R m s k) of.0 is))
 end_refused R conn serial code event is of = absurd of
 
-known_refused : (world : World) (conn generation serial code : ℕ) → IsRefusing world → beginning (replies.Book (told (book_of the_range world.book) (events.Begin conn generation serial))) ≡ Knows (Refused code) → IsRefusal world.channels world.transports conn serial code
+pub known_refused : (world : World) (conn generation serial code : ℕ) → IsRefusing world → beginning (replies.Book (told (book_of the_range world.book) (events.Begin conn generation serial))) ≡ Knows (Refused code) → IsRefusal world.channels world.transports conn serial code
 known_refused world conn generation serial code h is =
     all_some (λ (a : Answered). IsEndSo (IsRefusal world.channels world.transports) a.event) (λ (a : Answered). IsEndOf conn serial (Refused code) a.event) (IsRefusal world.channels world.transports conn serial code) world.book
     (λ a t e. end_refused (IsRefusal world.channels world.transports) conn serial code a.event t e) h.ends
     (known_is_end the_range conn generation serial (Refused code) world.book (known_is (told (book_of the_range world.book) (events.Begin conn generation serial)) (Refused code) is))
 
-put_refused : (world : World) (number conn serial code : ℕ) (body : Body) → number < length world.channels → verdict_in (replies.Chan (channel.reply the_epoch the_site (history number world) (Put conn serial body world.now))) ≡ Some (Done (Refused code))
+pub put_refused : (world : World) (number conn serial code : ℕ) (body : Body) → number < length world.channels → verdict_in (replies.Chan (channel.reply the_epoch the_site (history number world) (Put conn serial body world.now))) ≡ Some (Done (Refused code))
     → Decides (changed_at number (event_onto (Put conn serial body world.now)) world.channels) conn serial (IsRefused code)
 put_refused world number conn serial code body below said =
     let c = get_below number world.channels below in
@@ -236,10 +236,10 @@ shut_by None false name world at is none =
     absurd (cc)
 
 -- a directory that has no number for a name is full, and has it not
-shut_fits : (name : List ℕ) (world : World) → numbering (replies.Dir (directory.told (names world) (Ask name))) ≡ HasNone → (is_full (names_of (with_name name world).channels) ≡ true) × (number_of name (names_of (with_name name world).channels) ≡ None)
+pub shut_fits : (name : List ℕ) (world : World) → numbering (replies.Dir (directory.told (names world) (Ask name))) ≡ HasNone → (is_full (names_of (with_name name world).channels) ≡ true) × (number_of name (names_of (with_name name world).channels) ≡ None)
 shut_fits name world none = shut_by (number_of name (names world)) (is_full (names world)) name world refl refl none
 
-finish_end : (R : ℕ → ℕ → ℕ → Type 0) (G : ℕ → ℕ → List ℕ → Type 0) (p : Publish) (h : Holder) (o : Option Outcome) → IsWishSo R G (wishes.Finish p h o) → IsEndSo R (events.End h.conn h.generation p.serial o)
+pub finish_end : (R : ℕ → ℕ → ℕ → Type 0) (G : ℕ → ℕ → List ℕ → Type 0) (p : Publish) (h : Holder) (o : Option Outcome) → IsWishSo R G (wishes.Finish p h o) → IsEndSo R (events.End h.conn h.generation p.serial o)
 finish_end R G p h None is = tt
 finish_end R G p h (Some (Taken place)) is = tt
 finish_end R G p h (Some (Refused code)) is = is

@@ -67,7 +67,7 @@ use Rattle.rl_worldputs.proofs.Performing.{serve_resume, serve_opens, opened_ste
 
 -- CALLS
 
-true_held : (world : World) (k : ℕ) (t : Transport) (wish : Wish) → IsTrueWorld world → slice_get world.transports k ≡ Some t → t.actor.wish ≡ wish → IsHeldBy t.actor.holder wish
+pub true_held : (world : World) (k : ℕ) (t : Transport) (wish : Wish) → IsTrueWorld world → slice_get world.transports k ≡ Some t → t.actor.wish ≡ wish → IsHeldBy t.actor.holder wish
 true_held world k t wish true_ found is = subst (IsHeldBy t.actor.holder) is (all_at (IsTrueTransport world.channels) k t world.transports found true_.service.each).of_actor.held
 
 at_link : (uses : List Use) (owner : List ℕ → Option (List ℕ)) (world : World) (k : ℕ) (t : Transport) → slice_get world.transports k ≡ Some t → IsUsing uses owner world → IsLinkUsing uses (names_of world.channels) t
