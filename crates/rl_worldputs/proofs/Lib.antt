@@ -14,3 +14,4 @@ pub mod Refusing
 pub mod Refusals
 pub mod Refused
 pub mod Refuse
+pub mod Refusings

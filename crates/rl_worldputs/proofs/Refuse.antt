@@ -182,7 +182,7 @@ abbrev TakenOn : World → ℕ → (Transport → Transport) → ℕ → ℕ →
 TakenOn world k f = IsTakenUp (changed_at k f world.transports)
 
 -- a transport changes, and no channel
-change_lasts : (world : World) (k : ℕ) (f : Transport → Transport) → ((t : Transport) (conn serial : ℕ) (channel : List ℕ) → HasTaken conn serial channel t → HasTaken conn serial channel (f t)) → Lasts world (on_transport k f world)
+pub change_lasts : (world : World) (k : ℕ) (f : Transport → Transport) → ((t : Transport) (conn serial : ℕ) (channel : List ℕ) → HasTaken conn serial channel t → HasTaken conn serial channel (f t)) → Lasts world (on_transport k f world)
 change_lasts world k f step = lasts world (on_transport k f world) (λ conn serial code is. is) (λ full. refl) (λ conn serial channel is. changed_some (HasTaken conn serial channel) k f (λ t has. step t conn serial channel has) world.transports is)
 
 works_refuse : (world : World) (k : ℕ) (act : actor.State → actor.State) (on : Transport → Transport) → ((t : Transport) → (on t).actor ≡ t.actor) → ((t : Transport) → (on t).to_client ≡ t.to_client) → ((t : Transport) (conn serial : ℕ) (channel : List ℕ) → HasTaken conn serial channel t → HasTaken conn serial channel (on t)) → ((s : actor.State) → IsSteady s (act s))
