@@ -157,6 +157,11 @@ ends_called (calls.Chan number event) world after l new h = ends_last world afte
 
 -- CALLS
 
+-- what an action of the service leaves, and that what was so is so
+pub record Passes (world after : World) : Type 0 where
+  pub refusing : IsRefusing after
+  pub lasting : Lasts world after
+
 -- how long what is so lasts in a call
 pub call_lasts : (world : World) (k : ℕ) (call : Call) → ((t : Transport) → slice_get world.transports k ≡ Some t → IsSameOrFirst t.actor.holder (absorbed call (reply_to call world) world.now t.actor).holder) → Lasts world (performs k call world)
 call_lasts world k call holds =
@@ -173,16 +178,16 @@ TakenAfter k call world = IsTakenUp (performs k call world).transports
 pub perform_so : (world : World) (k : ℕ) (call : Call) → (holds : (t : Transport) → slice_get world.transports k ≡ Some t → IsSameOrFirst t.actor.holder (absorbed call (reply_to call world) world.now t.actor).holder)
     → ((event : BookEvent) → call ≡ calls.Book event → IsEndSo (RefusalAfter k call world) event)
     → ((t : Transport) → slice_get world.transports k ≡ Some t → IsActorSo (RefusalAfter k call world) (TakenAfter k call world) t.actor → IsActorSo (RefusalAfter k call world) (TakenAfter k call world) (absorbed call (reply_to call world) world.now t.actor))
-    → IsRefusing world → IsRefusing (performs k call world)
+    → IsRefusing world → Passes world (performs k call world)
 perform_so world k call holds new good h =
     let l = call_lasts world k call holds in
-    serve_so world (called call world) k (absorbs call world) (called_links call world) l (ends_called call world (performs k call world) l new h)
-    (λ t found link. works_so (RefusalAfter k call world) (TakenAfter k call world) (absorbed call (reply_to call world) world.now) (with_call call world t) (holds t found) (good t found link.of_actor) link.on_way) h
+    record { lasting = l; refusing = serve_so world (called call world) k (absorbs call world) (called_links call world) l (ends_called call world (performs k call world) l new h)
+    (λ t found link. works_so (RefusalAfter k call world) (TakenAfter k call world) (absorbed call (reply_to call world) world.now) (with_call call world t) (holds t found) (good t found link.of_actor) link.on_way) h }
 
 -- the call of a wish
 pub wish_so : (world : World) (k : ℕ) (t : Transport) (wish : Wish) (call : Call) → slice_get world.transports k ≡ Some t → t.actor.wish ≡ wish → IsHeldBy t.actor.holder wish → IsSameOrFirst t.actor.holder (absorbed call (reply_to call world) world.now t.actor).holder
     → reads.answered call (reply_to call world) world.now t.actor ≡ replied t.actor.wish (reply_to call world) world.now t.actor
-    → ((event : BookEvent) → call ≡ calls.Book event → IsEndSo (RefusalAfter k call world) event) → FitsSo (RefusalAfter k call world) (TakenAfter k call world) wish (reply_to call world) → IsRefusing world → IsRefusing (performs k call world)
+    → ((event : BookEvent) → call ≡ calls.Book event → IsEndSo (RefusalAfter k call world) event) → FitsSo (RefusalAfter k call world) (TakenAfter k call world) wish (reply_to call world) → IsRefusing world → Passes world (performs k call world)
 wish_so world k t wish call found is held holds same new fits h =
     let state : reads.answered call (reply_to call world) world.now t.actor ≡ replied wish (reply_to call world) world.now t.actor = same ∙ ap (λ (w : Wish). replied w (reply_to call world) world.now t.actor) is in
     perform_so world k call
