@@ -15,3 +15,4 @@ pub mod Refusals
 pub mod Refused
 pub mod Refuse
 pub mod Refusings
+pub mod Listing
