@@ -16,3 +16,4 @@ pub mod Refused
 pub mod Refuse
 pub mod Refusings
 pub mod Listing
+pub mod NoEntries

@@ -39,7 +39,7 @@ none_by name other (Some m) false is none = absurd (cc)
 none_by name other None false is none = (λ same. true≢false (sym (self_bytes name) ∙ ap (bytes_eq name) (sym same) ∙ is), refl)
 
 -- a name without a number is none of them
-number_none : (name : List ℕ) (ns : List (List ℕ)) → number_of name ns ≡ None → AllByRecursion (λ other. other ≢ name) ns
+pub number_none : (name : List ℕ) (ns : List (List ℕ)) → number_of name ns ≡ None → AllByRecursion (λ other. other ≢ name) ns
 number_none name [] none = tt
 number_none name (other ∷ ns) none =
     let b = none_by name other (number_of name ns) (bytes_eq name other) refl none in (b.0, number_none name ns b.1)
@@ -52,6 +52,12 @@ at_once : (x : List ℕ) (ns : List (List ℕ)) (k : ℕ) → AllByRecursion (λ
 at_once x [] k others found = absurd (cc)
 at_once x (y ∷ ns) zero others found = let same : y ≡ x = cc in others.0 (sym same)
 at_once x (y ∷ ns) (suc k) others found = at_once x ns k others.1 found
+
+-- one that is none of them stands nowhere
+pub at_none : (x : List ℕ) (ns : List (List ℕ)) (k : ℕ) → AllByRecursion (λ other. other ≢ x) ns → slice_get ns k ≡ Some x → ⊥
+at_none x [] k others found = absurd (cc)
+at_none x (y ∷ ns) zero others found = let same : y ≡ x = cc in others.0 same
+at_none x (y ∷ ns) (suc k) others found = at_none x ns k others.1 found
 
 -- a name stands at one number
 pub number_once : (x : List ℕ) (ns : List (List ℕ)) (j k : ℕ) → AreDistinct ns → slice_get ns j ≡ Some x → slice_get ns k ≡ Some x → j ≡ k

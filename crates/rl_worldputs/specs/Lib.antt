@@ -1,3 +1,4 @@
 pub mod Puts
 pub mod Uses
 pub mod Refusals
+pub mod NoEntries
