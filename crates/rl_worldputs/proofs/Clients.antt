@@ -1,40 +1,28 @@
 -- Uses of serials are kept by all that clients do.
-use Rattle.std.proofs.Common.{◌≡◌, ◌⊎◌, inl, inr, ℕ, suc, ◌+◌, ◌<◌, Bool, true, false, List, [], ◌∷◌, ◌++◌, length, map, refl, sym, ◌∙◌, ap, subst, arith, cond, true≢false}
-use Rattle.std.specs.Prelude.{Option, Some, None, slice_get, if◌then◌else◌, bytes_eq, ◌&&◌, is_none, is_some}
+use Rattle.std.proofs.Common.{◌≡◌, inl, inr, ℕ, Bool, true, false, List, [], ◌∷◌, map, refl, sym, ◌∙◌, ap, subst, true≢false}
+use Rattle.std.specs.Prelude.{Option, Some, None, slice_get, if◌then◌else◌, bytes_eq}
 use Rattle.std.specs.List.{AllByRecursion}
 use Rattle.rl_ids.specs.Forms.{conn_text}
 use Rattle.rl_types.specs.declared.frames.Frame.{Frame}
-use Rattle.rl_types.specs.declared.frames.Frame.TheVariants as frames
-use Rattle.rl_types.specs.declared.states.ConnState.{ConnState}
-use Rattle.rl_types.specs.declared.states.ConnState.TheVariants as conn
 use Rattle.rl_runs.specs.declared.commands.Command.{Command}
-use Rattle.rl_runs.specs.declared.commands.Command.TheVariants.{Connect, Die}
-use Rattle.rl_runs.specs.declared.commands.RecoveryKey.{RecoveryKey}
-use Rattle.rl_connsm.specs.Rules as rules
-use Rattle.rl_connsm.specs.Rules.{awaits_connected, takes_acknowledgements}
 use Rattle.rl_connsm.specs.declared.table.ConnEvent.TheVariants as events
 use Rattle.rl_connbook.proofs.Each.{all_weaker, all_append}
-use Rattle.rl_actormodel.specs.declared.parts.Holder.{Holder}
 use Rattle.rl_actormodel.specs.State as actor
-use Rattle.rl_clientmodel.specs.States.{ClientState, Turn, new_state, forgotten, state_after}
-use Rattle.rl_clientmodel.specs.Commands.{Refusal, refusal, acted, obeyed, obeyed_unless, hello_of}
-use Rattle.rl_clientmodel.specs.Hearing.{hears, heard, settle}
-use Rattle.rl_clientmodel.specs.Times.{unlinked, ticked}
-use Rattle.rl_clientmodel.specs.Keys.{recovery_key, key_with, may_recover, is_empty, recovered, with_key, before_mark}
-use Rattle.rl_worldmodel.specs.World.{World, Transport, new_transport, changed_at, on_transport, on_client, client_in, client_at, if_named, latest, last_of, owned}
-use Rattle.rl_worldmodel.specs.Clients.{declared_unless, cut_off, unlinks, cut_unless, cut_where, cut_at, cuts, put_unless, takes_frames, sent_on, sends, cuts_if, turned, turned_by, takes_turn, opened_as, opened_unless, opened_by, opens, obeys, recovered_with, recovered_if, recovered_from, Arrival, Comes, Ends, Nothing, arrival, gives_frame, got_by, got_on}
+use Rattle.rl_clientmodel.specs.States.{ClientState, Turn}
+use Rattle.rl_clientmodel.specs.Commands.{acted}
+use Rattle.rl_clientmodel.specs.Times.{ticked}
+use Rattle.rl_worldmodel.specs.World.{World, Transport, changed_at, on_transport, on_client, client_at, if_named, latest}
+use Rattle.rl_worldmodel.specs.Clients.{cut_off, unlinks, cut_unless, cut_where, cut_at, cuts, put_unless, takes_frames, sent_on, sends, cuts_if, turned, turned_by, takes_turn}
 use Rattle.rl_worldmodel.specs.Services.{feed_conn}
-use Rattle.rl_worldtold.specs.Truth.{OnHolder, IsOn, IsLinked, IsTrueFrame, IsTrueTransport, IsTrueWorld, names_of}
-use Rattle.rl_worldtold.specs.Tell.{IsTellable, IsTelling}
-use Rattle.rl_worldtold.proofs.Shape.{all_at, all_take, changed_all, changed_one, changed_none, get_append, get_changed, same_bytes, self_bytes, other_by, owned_append, owned_changed, latest_there}
-use Rattle.rl_worldtold.proofs.Calm.{IsOther}
-use Rattle.rl_worldtold.proofs.Moves.{Steps, IsNoConnect, steps_unlinked, steps_acted, steps_hears, steps_ticked}
-use Rattle.rl_worldtold.proofs.Answers.{found_in, arrives}
-use Rattle.rl_worldtold.proofs.Telling.{named_all, in_all, sent_owner, sent_cut, sent_actor, owned_new, last_append, get_last, and_first}
-use Rattle.rl_worldputs.specs.Uses.{Use, IsUse, AreSingle, IsUseOf, IsSent, IsNumbered, IsNew, MayServe, OnLatest, IsActorUsing, IsClientUsing, IsLinkUsing, IsUsing, HasUses}
+use Rattle.rl_worldtold.specs.Truth.{IsLinked, IsTrueWorld, names_of}
+use Rattle.rl_worldtold.proofs.Shape.{all_at, all_take, changed_one, changed_none, same_bytes, self_bytes}
+use Rattle.rl_worldtold.proofs.Moves.{Steps, IsNoConnect, steps_unlinked, steps_acted, steps_ticked}
+use Rattle.rl_worldtold.proofs.Answers.{found_in}
+use Rattle.rl_worldtold.proofs.Telling.{named_all, in_all, sent_owner, sent_cut, sent_actor}
+use Rattle.rl_worldputs.specs.Uses.{Use, IsSent, IsNumbered, MayServe, OnLatest, IsClientUsing, IsLinkUsing, IsUsing, HasUses}
 use Rattle.rl_worldputs.proofs.Using.{Grows, use_of_stays, link_stays, channel_stays}
-use Rattle.rl_worldputs.proofs.Turning.{AreNumbered, IsNotConnected, IsHeld, Makes, moved_held, makes_acted, makes_hears, makes_ticked}
-use Rattle.rl_worldputs.proofs.Turned.{Turns, IsCalmed, changed_latest, turns_made, connected_turns}
+use Rattle.rl_worldputs.proofs.Turning.{IsHeld, moved_held, makes_acted, makes_ticked}
+use Rattle.rl_worldputs.proofs.Turned.{Turns, IsCalmed, changed_latest, turns_made}
 
 -- TRANSPORTS AND CLIENTS THAT CHANGE
 

@@ -11,9 +11,9 @@ pub mod Performing
 pub mod Stepping
 pub mod Puts
 pub mod Refusing
-pub mod Refusals
-pub mod Refused
-pub mod Refuse
-pub mod Refusings
+pub mod Lasting
+pub mod Calling
+pub mod Wishing
+pub mod Elsewhere
 pub mod Listing
 pub mod NoEntries

@@ -1,5 +1,5 @@
 -- Which names the channels have, and what a call leaves of them and of what was put.
-use Rattle.std.proofs.Common.{◌≡◌, ◌⊎◌, inl, inr, ℕ, zero, suc, ◌≤◌, Bool, true, false, List, [], ◌∷◌, ◌++◌, length, map, refl, sym, ◌∙◌, ap, subst, arith, cond, true≢false}
+use Rattle.std.proofs.Common.{◌≡◌, ℕ, zero, suc, ◌≤◌, Bool, true, false, List, [], ◌∷◌, ◌++◌, length, refl, sym, ◌∙◌, ap, subst, arith, true≢false}
 use Rattle.std.specs.Prelude.{Option, Some, None, slice_get, if◌then◌else◌, option_map, bytes_eq, ◌≢◌}
 use Rattle.std.specs.List.{AllByRecursion}
 use Rattle.rl_events.specs.declared.book.BookEvent.{BookEvent}
@@ -8,16 +8,16 @@ use Rattle.rl_events.specs.declared.calls.DirEvent.TheVariants.{Ask}
 use Rattle.rl_events.specs.declared.calls.DirReply.TheVariants as dirs
 use Rattle.rl_events.specs.declared.calls.Reply.TheVariants as replies
 use Rattle.rl_connbook.specs.Book.{answered, last_number}
-use Rattle.rl_connbook.proofs.Each.{all_weaker, all_append}
+use Rattle.rl_connbook.proofs.Each.{all_append}
 use Rattle.rl_connbook.proofs.History.{last_grows}
 use Rattle.rl_directory.specs.Directory.{number_of, is_full}
 use Rattle.rl_directory.specs.Directory as directory
-use Rattle.rl_actormodel.specs.Replies.{Numbering, Has, numbering}
+use Rattle.rl_actormodel.specs.Replies.{Has, numbering}
 use Rattle.rl_worldmodel.specs.World.{World, the_range, changed_at, names}
-use Rattle.rl_worldmodel.specs.Calls.{with_book_event, named_by, with_name, event_onto, with_event}
+use Rattle.rl_worldmodel.specs.Calls.{with_book_event, named_by, with_name, event_onto}
 use Rattle.rl_worldtold.specs.Truth.{Channels, names_of}
 use Rattle.rl_worldtold.specs.Listed.{AreDistinct}
-use Rattle.rl_worldtold.proofs.Shape.{all_at, get_append, changed_one, changed_none, map_changed, same_bytes, self_bytes, name_beside}
+use Rattle.rl_worldtold.proofs.Shape.{all_at, get_append, changed_one, changed_none, map_changed, same_bytes, self_bytes}
 use Rattle.rl_worldputs.specs.Uses.{Use, HasNumber, IsPutUsing, IsChannelUsing, IsUsing}
 
 -- NAMES AND NUMBERS

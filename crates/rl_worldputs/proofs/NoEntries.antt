@@ -1,6 +1,6 @@
 -- A refused Put has no entry on any channel: all actions, and the law.
-use Rattle.std.proofs.Common.{◌≡◌, ◌⊎◌, inl, inr, ℕ, zero, suc, ◌≤◌, ◌<◌, ◌^◌, List, [], ◌∷◌, ◌++◌, take, refl, sym, ◌∙◌, ap, subst, arith}
-use Rattle.std.specs.Prelude.{Option, Some, None, slice_get, ◌≢◌}
+use Rattle.std.proofs.Common.{◌≡◌, inl, inr, ℕ, suc, ◌<◌, ◌^◌, List, [], ◌∷◌, take, refl, sym, ◌∙◌, subst}
+use Rattle.std.specs.Prelude.{Option, Some, None, slice_get}
 use Rattle.std.specs.List.{AllByRecursion}
 use Rattle.rl_ids.specs.Forms.{conn_text}
 use Rattle.rl_ids.proofs.Forms.{conn_texts_differ}
@@ -9,7 +9,6 @@ use Rattle.rl_types.specs.declared.frames.Frame.TheVariants as frames
 use Rattle.rl_types.specs.declared.messages.Entry.{Entry}
 use Rattle.rl_events.specs.declared.channel.ChannelEvent.{ChannelEvent}
 use Rattle.rl_events.specs.declared.channel.ChannelEvent.TheVariants.{Put}
-use Rattle.rl_events.specs.declared.channel.Outcome.TheVariants.{Taken, Refused}
 use Rattle.rl_runs.specs.declared.findings.Answer.{Answer}
 use Rattle.rl_runs.specs.declared.findings.Answer.TheVariants.{Ack, Nack}
 use Rattle.rl_connbook.specs.Laws.{SomeOf}
@@ -18,27 +17,25 @@ use Rattle.rl_directory.specs.Directory.{number_of}
 use Rattle.rl_model.specs.History.{setting}
 use Rattle.rl_model.specs.Verdict.{Decision, decided, decisions, log}
 use Rattle.rl_actormodel.specs.declared.parts.Holder.{Holder}
-use Rattle.rl_clientmodel.specs.States.{ClientState}
-use Rattle.rl_worldmodel.specs.World.{World, Transport, empty_world, the_site, client_at, latest, names}
+use Rattle.rl_worldmodel.specs.World.{World, Transport, the_site, client_at, latest, names}
 use Rattle.rl_worldmodel.specs.Actions.{Action, Declares, Opens, Cuts, Recovers, Obeys, Gets, LooksAtTime, Steps, Pages, Polls, Passes, Expires, Reaps, Ages, Asks, Feeds, does}
 use Rattle.rl_worldtold.specs.Runs.{HoldsOfRuns}
 use Rattle.rl_worldtold.specs.Told.{IsRefused}
 use Rattle.rl_worldtold.specs.Truth.{IsPutBy, Decides, OnHolder, IsTrueWorld, names_of}
-use Rattle.rl_worldtold.specs.Decided.{IsDecidedAs, DecidesOnce, HasDecidedOnce}
-use Rattle.rl_worldtold.proofs.Shape.{all_at, all_take, name_beside}
+use Rattle.rl_worldtold.specs.Decided.{DecidesOnce, HasDecidedOnce}
+use Rattle.rl_worldtold.proofs.Shape.{all_at, all_take}
 use Rattle.rl_worldtold.proofs.Runs.{runs_hold}
 use Rattle.rl_worldtold.proofs.Quiet.{declares_keeps, opens_keeps, cuts_keeps, recovers_keeps, obeys_keeps, gets_keeps, looks_keeps}
 use Rattle.rl_worldtold.proofs.Service.{steps_true, pages_true, polls_true, expires_true, reaps_true, ages_true, names_true, feeds_true}
 use Rattle.rl_worldtold.proofs.Answers.{keeps_true, begins_true}
 use Rattle.rl_worldtold.proofs.Deciding.{IsEntryOf, entry_decided, channels_decide_once}
-use Rattle.rl_worldputs.specs.Uses.{Use, IsUse, IsUseBy, IsSent, HasNumber, IsPutUsing, IsChannelUsing, IsLinkUsing, IsUsing, HasUses}
+use Rattle.rl_worldputs.specs.Uses.{Use, IsUse, IsSent, HasNumber, IsPutUsing, IsChannelUsing, IsLinkUsing, IsUsing, HasUses}
 use Rattle.rl_worldputs.specs.Refusals.{IsOf, HasTaken, IsTakenUp, IsShutOut, IsRefusal, IsRefusing, IsAnswerSo, AreAnswersSo}
 use Rattle.rl_worldputs.specs.NoEntries.{HasNoEntry, IsOfNoEntry, AllOfNoEntry, RefusedHasNoEntry}
 use Rattle.rl_worldputs.proofs.Naming.{name_at, number_once, number_none, at_none}
 use Rattle.rl_worldputs.proofs.Puts.{always_kept}
-use Rattle.rl_worldputs.proofs.Refusals.{Lasts}
-use Rattle.rl_worldputs.proofs.Refuse.{steps_refuse, pages_refuse, polls_refuse}
-use Rattle.rl_worldputs.proofs.Refusings.{expires_lasts, expires_refuse, reaped_lasts, reaped_refuse, aged_lasts, aged_refuse, fed_lasts, fed_refuse, name_lasts, names_refuse, quiet_refusing}
+use Rattle.rl_worldputs.proofs.Wishing.{steps_refuse, pages_refuse, polls_refuse}
+use Rattle.rl_worldputs.proofs.Elsewhere.{expires_lasts, expires_refuse, reaped_lasts, reaped_refuse, aged_lasts, aged_refuse, fed_lasts, fed_refuse, name_lasts, names_refuse, quiet_refusing}
 use Rattle.rl_worldputs.proofs.Listing.{answers_last, cuts_answers, looks_answers, got_on_answers, opens_answers, obeys_answers, from_answers, declared_answers}
 
 -- ALL ACTIONS

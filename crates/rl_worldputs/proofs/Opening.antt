@@ -1,40 +1,33 @@
 -- Uses of serials are kept where a client gets what comes, opens a transport, is declared, and goes on where another stood.
-use Rattle.std.proofs.Common.{◌≡◌, ◌⊎◌, inl, inr, ℕ, suc, ◌+◌, ◌<◌, Bool, true, false, List, [], ◌∷◌, ◌++◌, length, map, refl, sym, ◌∙◌, ap, subst, arith, cond, true≢false}
-use Rattle.std.specs.Prelude.{Option, Some, None, slice_get, if◌then◌else◌, bytes_eq, ◌&&◌}
+use Rattle.std.proofs.Common.{◌≡◌, ◌⊎◌, inl, inr, ℕ, ◌+◌, Bool, true, false, List, [], ◌∷◌, ◌++◌, length, map, refl, sym, ◌∙◌, ap, subst, arith}
+use Rattle.std.specs.Prelude.{Option, Some, None, slice_get, if◌then◌else◌, bytes_eq}
 use Rattle.std.specs.List.{AllByRecursion}
 use Rattle.rl_ids.specs.Forms.{conn_text}
 use Rattle.rl_types.specs.declared.frames.Frame.{Frame}
 use Rattle.rl_types.specs.declared.frames.Frame.TheVariants as frames
-use Rattle.rl_types.specs.declared.states.ConnState.{ConnState}
-use Rattle.rl_types.specs.declared.states.ConnState.TheVariants as conn
-use Rattle.rl_events.specs.declared.channel.ChannelEvent.{ChannelEvent}
 use Rattle.rl_runs.specs.declared.commands.Command.{Command}
 use Rattle.rl_runs.specs.declared.commands.Command.TheVariants.{Connect, Die}
-use Rattle.rl_runs.specs.declared.commands.RecoveryKey.{RecoveryKey}
 use Rattle.rl_runs.specs.declared.findings.Answer.{Answer}
-use Rattle.rl_connsm.specs.Table.{conn_table}
-use Rattle.rl_connsm.specs.Rules as rules
-use Rattle.rl_connsm.specs.Rules.{awaits_connected, takes_acknowledgements, forgets_connection}
+use Rattle.rl_connsm.specs.Rules.{awaits_connected, takes_acknowledgements}
 use Rattle.rl_connsm.specs.declared.table.ConnEvent.TheVariants as events
 use Rattle.rl_connbook.proofs.Each.{all_weaker, all_append}
 use Rattle.rl_actormodel.specs.declared.parts.Holder.{Holder}
 use Rattle.rl_actormodel.specs.State as actor
-use Rattle.rl_clientmodel.specs.States.{ClientState, Turn, new_state, forgotten, state_after, conn_moved}
-use Rattle.rl_clientmodel.specs.Commands.{Refusal, refusal, acted, obeyed, obeyed_unless, hello_of}
+use Rattle.rl_clientmodel.specs.States.{ClientState, new_state, conn_moved}
+use Rattle.rl_clientmodel.specs.Commands.{Refusal, refusal, acted, obeyed_unless, hello_of}
 use Rattle.rl_clientmodel.specs.Hearing.{hears, heard, settle}
-use Rattle.rl_clientmodel.specs.Keys.{recovery_key, key_with, may_recover, is_empty, recovered, with_key, before_mark}
-use Rattle.rl_worldmodel.specs.World.{World, Transport, new_transport, changed_at, on_transport, on_client, client_in, client_at, if_named, latest, last_of, owned}
-use Rattle.rl_worldmodel.specs.Clients.{declared_unless, cut_off, unlinks, cut_unless, cut_where, cut_at, cuts, takes_frames, sent_on, sends, cuts_if, turned, turned_by, takes_turn, opened_as, opened_unless, opened_by, opens, obeys, recovered_with, recovered_if, recovered_from, Arrival, Comes, Ends, Nothing, arrival, gives_frame, got_by, got_on}
-use Rattle.rl_worldtold.specs.Truth.{Channels, OnHolder, IsOn, IsLinked, IsTrueFrame, IsTrueTransport, IsTrueWorld, names_of}
-use Rattle.rl_worldtold.specs.Tell.{IsTellable, IsTelling}
+use Rattle.rl_clientmodel.specs.Keys.{before_mark}
+use Rattle.rl_worldmodel.specs.World.{World, Transport, new_transport, on_transport, client_at, if_named, latest, last_of, owned}
+use Rattle.rl_worldmodel.specs.Clients.{declared_unless, takes_turn, opened_as, opened_unless, opened_by, opens, obeys, Arrival, Comes, Ends, Nothing, arrival, gives_frame, got_by, got_on}
+use Rattle.rl_worldtold.specs.Truth.{Channels, OnHolder, IsLinked, IsTrueFrame, IsTrueTransport, IsTrueWorld, names_of}
 use Rattle.rl_worldtold.proofs.Shape.{all_at, get_append, same_bytes, self_bytes, other_by, owned_append, latest_there, owned_changed, get_changed}
-use Rattle.rl_worldtold.proofs.Moves.{steps_hears, steps_unlinked, forgets_no_connecting, forgot_conn}
-use Rattle.rl_worldtold.proofs.Answers.{found_in, arrives}
-use Rattle.rl_worldtold.proofs.Telling.{named_all, in_all, owned_new, last_append, get_last, first_is, and_first}
-use Rattle.rl_worldputs.specs.Uses.{Use, AreSingle, AreBelow, IsNumbered, IsNew, MayServe, OnLatest, IsWishUsing, IsGivenId, IsClientUsing, IsLinkUsing, IsUsing, HasUses}
+use Rattle.rl_worldtold.proofs.Moves.{steps_hears}
+use Rattle.rl_worldtold.proofs.Answers.{arrives}
+use Rattle.rl_worldtold.proofs.Telling.{in_all, owned_new, last_append, get_last}
+use Rattle.rl_worldputs.specs.Uses.{Use, AreSingle, IsNumbered, IsNew, OnLatest, IsWishUsing, IsClientUsing, IsUsing, HasUses}
 use Rattle.rl_worldputs.proofs.Turning.{IsHeld, moved_held, makes_hears}
 use Rattle.rl_worldputs.proofs.Turned.{Turns, IsCalmed, changed_latest, turns_made, connected_turns}
-use Rattle.rl_worldputs.proofs.Clients.{link_using, held_client, calm_steps, client_using, at_using, cuts_using, if_using, sent_using, turned_by_using, linked_at, told_using}
+use Rattle.rl_worldputs.proofs.Clients.{link_using, calm_steps, at_using, cuts_using, turned_by_using, linked_at, told_using}
 
 -- A FRAME IS HEARD
 

@@ -1,6 +1,6 @@
 -- Uses of serials are kept where a client goes on where another one stood: the other one is dead, and the connection is the
 -- client's from then on.
-use Rattle.std.proofs.Common.{◌≡◌, ◌⊎◌, inl, inr, ℕ, ◌<◌, Bool, true, false, List, [], ◌∷◌, map, refl, sym, ◌∙◌, ap, subst, arith, cond, true≢false}
+use Rattle.std.proofs.Common.{◌≡◌, inl, inr, ℕ, Bool, true, false, List, [], ◌∷◌, map, refl, sym, ◌∙◌, ap, subst, true≢false}
 use Rattle.std.specs.Prelude.{Option, Some, None, slice_get, if◌then◌else◌, bytes_eq, filter_map}
 use Rattle.std.specs.List.{AllByRecursion}
 use Rattle.rl_ids.specs.Forms.{conn_text}
@@ -14,17 +14,17 @@ use Rattle.rl_connsm.specs.Rules as rules
 use Rattle.rl_connsm.specs.Rules.{forgets_connection}
 use Rattle.rl_connsm.specs.declared.table.ConnEvent.TheVariants as events
 use Rattle.rl_connbook.proofs.Each.{all_weaker}
-use Rattle.rl_clientmodel.specs.States.{ClientState, Turn, forgotten, state_after, conn_moved}
+use Rattle.rl_clientmodel.specs.States.{ClientState, forgotten, state_after, conn_moved}
 use Rattle.rl_clientmodel.specs.Commands.{acted}
-use Rattle.rl_clientmodel.specs.Keys.{recovery_key, serial_held, key_with, may_recover, is_empty, recovered, with_key, before_mark}
-use Rattle.rl_worldmodel.specs.World.{World, Transport, on_transport, on_client, client_in, client_at, if_named, latest}
-use Rattle.rl_worldmodel.specs.Clients.{cut_off, unlinks, cut_unless, cut_where, cut_at, cuts, sent_on, sends, cuts_if, turned, turned_by, obeys, recovered_with, recovered_if, recovered_from}
+use Rattle.rl_clientmodel.specs.Keys.{recovery_key, serial_held, key_with, may_recover, recovered, with_key, before_mark}
+use Rattle.rl_worldmodel.specs.World.{World, Transport, on_client, client_at, if_named, latest}
+use Rattle.rl_worldmodel.specs.Clients.{unlinks, cut_unless, cut_where, cut_at, cuts, sent_on, sends, cuts_if, turned, turned_by, obeys, recovered_with, recovered_if, recovered_from}
 use Rattle.rl_worldmodel.specs.Services.{feed_conn}
 use Rattle.rl_worldtold.specs.Tell.{IsTellable, IsTelling}
 use Rattle.rl_worldtold.proofs.Shape.{same_bytes, self_bytes}
 use Rattle.rl_worldtold.proofs.Moves.{steps_unlinked, steps_acted, forgets_no_connecting, forgot_conn}
 use Rattle.rl_worldtold.proofs.Telling.{named_all, in_all, first_is, and_first}
-use Rattle.rl_worldputs.specs.Uses.{Use, AreBelow, IsNumbered, IsNew, MayServe, IsGivenId, IsClientUsing, IsUsing, HasUses}
+use Rattle.rl_worldputs.specs.Uses.{Use, AreBelow, IsGivenId, IsClientUsing, IsUsing, HasUses}
 use Rattle.rl_worldputs.proofs.Turning.{IsHeld, moved_held}
 use Rattle.rl_worldputs.proofs.Turned.{IsCalmed}
 use Rattle.rl_worldputs.proofs.Clients.{held_client, calm_steps, client_using, cuts_using, if_using, sent_using}

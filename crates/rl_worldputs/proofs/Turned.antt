@@ -1,11 +1,9 @@
 -- What a client's turn makes of a world's uses.
-use Rattle.std.proofs.Common.{◌≡◌, ◌⊎◌, inl, inr, ℕ, suc, ◌+◌, ◌<◌, Bool, true, false, List, [], ◌∷◌, ◌++◌, map, refl, sym, ◌∙◌, ap, subst, arith, cond, true≢false}
-use Rattle.std.specs.Prelude.{Option, Some, None, slice_get, if◌then◌else◌, bytes_eq}
+use Rattle.std.proofs.Common.{◌≡◌, ◌⊎◌, inl, inr, ℕ, Bool, true, false, List, [], ◌++◌, refl, sym, ◌∙◌, ap, subst}
+use Rattle.std.specs.Prelude.{Option, Some, None, slice_get, if◌then◌else◌}
 use Rattle.std.specs.List.{AllByRecursion}
 use Rattle.rl_ids.specs.Forms.{conn_text}
 use Rattle.rl_types.specs.declared.frames.Frame.{Frame}
-use Rattle.rl_types.specs.declared.frames.Frame.TheVariants as frames
-use Rattle.rl_types.specs.declared.states.ConnState.{ConnState}
 use Rattle.rl_types.specs.declared.states.ConnState.TheVariants as conn
 use Rattle.rl_connsm.specs.Rules.{awaits_connected}
 use Rattle.rl_connsm.specs.declared.table.ConnEvent.TheVariants as events
@@ -13,23 +11,21 @@ use Rattle.rl_chansm.specs.declared.table.ChanEvent.TheVariants as channel_event
 use Rattle.rl_ackq.specs.declared.pending.Pending.{Pending}
 use Rattle.rl_ackq.specs.Queue.{Queue, renumbered}
 use Rattle.rl_ackq.specs.Queue as queues
-use Rattle.rl_connbook.proofs.Each.{all_weaker, all_append}
+use Rattle.rl_connbook.proofs.Each.{all_append}
 use Rattle.rl_actormodel.specs.declared.parts.Holder.{Holder}
 use Rattle.rl_clientmodel.specs.declared.steps.ChannelStep.TheVariants.{Moves}
 use Rattle.rl_clientmodel.specs.States.{ClientState, Turn, quietly, sending, conn_moved, all_asks}
-use Rattle.rl_clientmodel.specs.Hearing.{is_id, queue_with, stands_with, hears, settle}
-use Rattle.rl_clientmodel.specs.Times.{unlinked}
-use Rattle.rl_worldmodel.specs.World.{World, Transport, changed_at, on_transport, on_client, if_named, latest, last_of, owned}
-use Rattle.rl_worldmodel.specs.Clients.{cut_off, unlinks, cut_unless, cut_where, cut_at, cuts, put_unless, takes_frames, sent_on, sends, cuts_if, turned}
-use Rattle.rl_worldtold.specs.Truth.{OnHolder, IsOn, IsLinked, names_of}
-use Rattle.rl_worldtold.proofs.Shape.{all_map, all_take, changed_one, changed_none, changed_all, get_after, owned_changed, self_bytes}
-use Rattle.rl_worldtold.proofs.Moves.{steps_unlinked, connected_conn}
+use Rattle.rl_clientmodel.specs.Hearing.{is_id, queue_with, stands_with}
+use Rattle.rl_worldmodel.specs.World.{World, Transport, changed_at, latest, last_of, owned}
+use Rattle.rl_worldmodel.specs.Clients.{cuts}
+use Rattle.rl_worldtold.specs.Truth.{OnHolder, IsOn, IsLinked}
+use Rattle.rl_worldtold.proofs.Shape.{all_map, get_after, owned_changed}
+use Rattle.rl_worldtold.proofs.Moves.{connected_conn}
 use Rattle.rl_worldtold.proofs.Lists.{awaits_is}
 use Rattle.rl_worldtold.proofs.Once.{id_held, id_other}
-use Rattle.rl_worldtold.proofs.Telling.{named_all, sent_owner, sent_cut, sent_actor}
-use Rattle.rl_worldputs.specs.Uses.{Use, IsUse, AreSingle, IsPlain, IsUseOf, IsSent, IsNumbered, IsNew, MayServe, OnLatest, IsClientUsing, IsLinkUsing, IsUsing}
-use Rattle.rl_worldputs.proofs.Using.{Grows, grows_same, plain_so, use_of_stays, link_stays, channel_stays, Pushes, renumber}
-use Rattle.rl_worldputs.proofs.Turning.{Makes, IsHeld, moved_held, plain_all}
+use Rattle.rl_worldputs.specs.Uses.{Use, AreSingle, IsUseOf, IsSent, IsNumbered, IsNew, MayServe, OnLatest, IsClientUsing}
+use Rattle.rl_worldputs.proofs.Using.{Grows, grows_same, plain_so, Pushes, renumber}
+use Rattle.rl_worldputs.proofs.Turning.{Makes, plain_all}
 
 -- THE LATEST TRANSPORT
 

@@ -1,6 +1,6 @@
 -- What a client's inputs make of the uses of its connection's serials.
-use Rattle.std.proofs.Common.{◌≡◌, ◌⊎◌, inl, inr, ℕ, ◌+◌, ◌<◌, Bool, true, false, List, [], ◌∷◌, ◌++◌, map, refl, sym, ◌∙◌, ap, subst, arith, cond}
-use Rattle.std.specs.Prelude.{Option, Some, None, if◌then◌else◌, not, ⊤, flat_map}
+use Rattle.std.proofs.Common.{◌≡◌, ◌⊎◌, inl, inr, ℕ, Bool, true, false, List, [], ◌∷◌, map, refl, sym, ◌∙◌, subst}
+use Rattle.std.specs.Prelude.{Option, Some, None, if◌then◌else◌, not, ⊤}
 use Rattle.std.specs.List.{AllByRecursion}
 use Rattle.rl_ids.specs.declared.serials.ChannelSerial.{ChannelSerial}
 use Rattle.rl_types.specs.declared.frames.Frame.{Frame}
@@ -23,19 +23,18 @@ use Rattle.rl_chansm.specs.declared.table.ChanEvent.TheVariants as channel_event
 use Rattle.rl_ackq.specs.declared.pending.Pending.{Pending}
 use Rattle.rl_ackq.specs.Frames.{with_serial}
 use Rattle.rl_ackq.specs.Queue.{Queue, pushed, is_covered}
-use Rattle.rl_connbook.proofs.Each.{all_weaker, all_append, all_filter}
+use Rattle.rl_connbook.proofs.Each.{all_append, all_filter}
 use Rattle.rl_names.specs.Names.{at}
 use Rattle.rl_clientmodel.specs.declared.steps.ChannelStep.{ChannelStep}
-use Rattle.rl_clientmodel.specs.declared.steps.ChannelStep.TheVariants.{Moves, DetachedGot, ErrorGot, LinkLost, LinkOpened, Waited, Collects}
-use Rattle.rl_clientmodel.specs.Channels.{ClientChannel, channel_from, attach_frame, asks, detached_asks, channel_asks}
+use Rattle.rl_clientmodel.specs.declared.steps.ChannelStep.TheVariants.{Moves, DetachedGot, ErrorGot}
+use Rattle.rl_clientmodel.specs.Channels.{ClientChannel, channel_from, attach_frame, asks, channel_asks}
 use Rattle.rl_clientmodel.specs.Entries.{entry_got, page_got, object_page_got}
-use Rattle.rl_clientmodel.specs.States.{ClientState, Turn, quietly, sending, changed, change_channel, with_channel, stepped, forgotten, state_after, conn_moved, moving, all_asks}
+use Rattle.rl_clientmodel.specs.States.{ClientState, Turn, quietly, sending, changed, with_channel, stepped, forgotten, state_after, conn_moved, moving, all_asks}
 use Rattle.rl_clientmodel.specs.Commands.{Refusal, refusal, acted, obeyed, obeyed_unless, if_connected, enqueued, head_on, unnumbered, presence_frame, attach_step, detach_step, channel_or_new, with_own, without_own}
-use Rattle.rl_clientmodel.specs.Hearing.{all_enqueued, entering, entered_again, attached_in, error_got, hears, settled_by, settle, id_of, all_pushed, all_numbered}
+use Rattle.rl_clientmodel.specs.Hearing.{all_enqueued, entering, entered_again, attached_in, error_got, hears, settle, id_of, all_pushed, all_numbered}
 use Rattle.rl_clientmodel.specs.Answers.{attached_got, is_answer}
-use Rattle.rl_clientmodel.specs.Times.{unlinked, ticked, aged, is_past_ttl, is_silent, waited}
-use Rattle.rl_worldtold.proofs.Calm.{IsOther}
-use Rattle.rl_worldputs.specs.Uses.{Use, IsUse, AreSingle, OnFrame, IsPlain, IsUseOf, IsNumbered}
+use Rattle.rl_clientmodel.specs.Times.{unlinked, ticked, is_past_ttl, is_silent, waited}
+use Rattle.rl_worldputs.specs.Uses.{Use, AreSingle, IsPlain, IsUseOf, IsNumbered}
 use Rattle.rl_worldputs.proofs.Using.{Grows, grows_same, Pushes, push_one, push_all}
 
 -- what a turn makes of them, of whatever world

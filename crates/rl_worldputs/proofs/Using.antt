@@ -1,10 +1,9 @@
 -- Uses of serials: what stays as they become more.
-use Rattle.std.proofs.Common.{◌≡◌, ◌⊎◌, inl, inr, ℕ, ◌+◌, ◌≤◌, ◌<◌, Bool, true, false, List, [], ◌∷◌, ◌++◌, length, refl, sym, ◌∙◌, ap, subst, arith}
+use Rattle.std.proofs.Common.{◌≡◌, ◌⊎◌, inl, inr, ℕ, ◌+◌, ◌<◌, Bool, true, false, List, [], ◌∷◌, length, refl, sym, ◌∙◌, ap, subst, arith}
 use Rattle.std.specs.Prelude.{Option, Some, None, if◌then◌else◌}
 use Rattle.std.specs.List.{AllByRecursion}
 use Rattle.rl_types.specs.declared.frames.Frame.{Frame}
 use Rattle.rl_types.specs.declared.frames.Frame.TheVariants as frames
-use Rattle.rl_types.specs.declared.frames.Head.{Head}
 use Rattle.rl_events.specs.declared.channel.ChannelEvent.{ChannelEvent}
 use Rattle.rl_events.specs.declared.channel.ChannelEvent.TheVariants.{Put}
 use Rattle.rl_ids.specs.Forms.{conn_text}
@@ -16,10 +15,8 @@ use Rattle.rl_clientmodel.specs.Hearing.{all_pushed, all_numbered}
 use Rattle.rl_actormodel.specs.declared.parts.Holder.{Holder}
 use Rattle.rl_actormodel.specs.declared.parts.Wish.{Wish}
 use Rattle.rl_actormodel.specs.declared.parts.Wish.TheVariants as wishes
-use Rattle.rl_actormodel.specs.State as actor
 use Rattle.rl_worldmodel.specs.World.{Transport}
-use Rattle.rl_worldtold.specs.Truth.{OnHolder}
-use Rattle.rl_worldputs.specs.Uses.{Use, IsThis, IsUse, AreSingle, AreBelow, OnHead, OnFrame, IsPlain, IsUseOf, IsUseBy, IsSent, IsNumbered, IsWishUsing, IsActorUsing, IsLinkUsing, IsPutUsing, IsChannelUsing}
+use Rattle.rl_worldputs.specs.Uses.{Use, IsUse, AreSingle, AreBelow, OnFrame, IsPlain, IsUseOf, IsUseBy, IsSent, IsNumbered, IsWishUsing, IsLinkUsing, IsPutUsing, IsChannelUsing}
 
 -- FRAMES
 

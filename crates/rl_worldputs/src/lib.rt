@@ -1,4 +1,5 @@
-//! On which channel a connection's serials are put, in every run, over the definitions of `rl_worldmodel`: each on one alone.
+//! What every run keeps of the serials of connections, over the definitions of `rl_worldmodel`: each is put on one channel
+//! alone, and one that was refused has no entry on any.
 #![tactic(auto)]
 
 pub mod laws;

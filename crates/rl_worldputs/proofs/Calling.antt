@@ -1,100 +1,59 @@
 -- Refusals are of what channels decided, or of channels that a full directory has not: what the service does keeps it.
-use Rattle.std.proofs.Common.{◌≡◌, ◌⊎◌, inl, inr, ℕ, zero, suc, ◌+◌, ◌-◌, ◌^◌, ◌≤◌, ◌<◌, Bool, true, false, List, [], ◌∷◌, ◌++◌, length, map, refl, sym, ◌∙◌, ap, subst, arith, cond, true≢false}
-use Rattle.std.specs.Prelude.{Option, Some, None, slice_get, if◌then◌else◌, is_some, bytes_eq, max, take}
+use Rattle.std.proofs.Common.{◌≡◌, inl, inr, ℕ, ◌<◌, Bool, true, false, List, [], ◌∷◌, ◌++◌, length, refl, sym, ◌∙◌, ap, subst}
+use Rattle.std.specs.Prelude.{Option, Some, None, slice_get, if◌then◌else◌}
 use Rattle.std.specs.List.{AllByRecursion}
-use Rattle.rl_ids.specs.Forms.{conn_text}
-use Rattle.rl_ids.proofs.Forms.{conn_texts_differ}
-use Rattle.rl_types.specs.declared.frames.Frame.{Frame}
 use Rattle.rl_types.specs.declared.messages.Body.{Body}
-use Rattle.rl_types.specs.declared.states.ConnState.TheVariants as conn
 use Rattle.rl_events.specs.declared.book.BookEvent.{BookEvent}
 use Rattle.rl_events.specs.declared.book.BookEvent.TheVariants as events
 use Rattle.rl_events.specs.declared.channel.ChannelEvent.{ChannelEvent}
-use Rattle.rl_events.specs.declared.channel.ChannelEvent.TheVariants.{Put, Gone, Join, Read, MemberPage, ObjectPage, Tick}
-use Rattle.rl_events.specs.declared.calls.End.{End}
-use Rattle.rl_events.specs.declared.calls.End.TheVariants as ends
+use Rattle.rl_events.specs.declared.channel.ChannelEvent.TheVariants.{Put}
 use Rattle.rl_events.specs.declared.calls.Call.{Call}
 use Rattle.rl_events.specs.declared.calls.Call.TheVariants as calls
 use Rattle.rl_events.specs.declared.calls.DirEvent.TheVariants.{Ask, Names}
-use Rattle.rl_events.specs.declared.calls.Reply.{Reply}
 use Rattle.rl_connbook.specs.Records.{Answered}
-use Rattle.rl_connbook.specs.Book.{book_of, told, answered, last_number, is_opened}
+use Rattle.rl_connbook.specs.Book.{book_of, told}
 use Rattle.rl_connbook.proofs.Each.{all_weaker}
-use Rattle.rl_connbook.proofs.History.{last_grows, last_more}
 use Rattle.rl_directory.specs.Directory.{number_of}
-use Rattle.rl_clientmodel.specs.States.{ClientState}
-use Rattle.rl_clientmodel.specs.Keys.{before_mark}
 use Rattle.rl_actormodel.specs.declared.parts.Publish.{Publish}
 use Rattle.rl_actormodel.specs.declared.parts.Holder.{Holder}
 use Rattle.rl_actormodel.specs.declared.parts.Wish.{Wish}
 use Rattle.rl_actormodel.specs.declared.parts.Wish.TheVariants as wishes
-use Rattle.rl_actormodel.specs.State as actor
-use Rattle.rl_actormodel.specs.Ends.{over}
-use Rattle.rl_actormodel.specs.Takes.{took}
-use Rattle.rl_actormodel.specs.Wishes.{wanted, next_call}
-use Rattle.rl_actormodel.specs.Replies.{Resuming, Back, NotKnown, Unresumed, resuming, Opening, Opens, Limited, Unopened, opening, reading, channel_reply}
-use Rattle.rl_actormodel.specs.Connects.{resumed_by, opened_by}
-use Rattle.rl_actormodel.specs.Pagings.{page_by}
 use Rattle.rl_actormodel.specs.Reads as reads
 use Rattle.rl_actormodel.specs.Reads.{absorbed, answered_at, replied, read_by}
-use Rattle.rl_actormodel.specs.Rests.{rested, does_rest}
-use Rattle.rl_worldmodel.specs.World.{World, Transport, Way, the_range, with_one_got, on_transport, changed_at, latest, last_of, owned, names}
-use Rattle.rl_worldmodel.specs.Calls.{reply_to, called, event_onto, with_event, with_name}
-use Rattle.rl_worldmodel.specs.Actors.{arrives, put_out_unless, works, with_call, absorbs, performs, deed_by, deed_of, done, steps, next_page, next_poll, performs_if, pages, polls}
-use Rattle.rl_worldmodel.specs.Services.{feed_conn, expires, reaped, reaps, event_at, ages, fed_at, feeds}
-use Rattle.rl_worldtold.specs.Truth.{Channels, names_of, IsHeldBy, IsTrueTransport, IsTrueWorld}
-use Rattle.rl_worldtold.specs.Tell.{asks, MayTell, IsTellable, IsTelling}
-use Rattle.rl_worldtold.specs.Given.{events_of, IsDecided}
-use Rattle.rl_worldtold.specs.Tell.{IsBelow}
-use Rattle.rl_connbook.proofs.Numbers.{bound_all}
-use Rattle.rl_worldtold.proofs.Shape.{all_at, all_both, changed_one, changed_none, same_bytes, works_actor, works_owner, works_cut}
-use Rattle.rl_worldtold.proofs.Sessions.{IsOfSession, pages_are, polls_are}
-use Rattle.rl_worldtold.proofs.Keys.{resume_key, open_key}
-use Rattle.rl_worldtold.proofs.Service.{resumed_is, opened_is}
-use Rattle.rl_worldtold.proofs.Asks.{IsSteady, IsLater, itself, replied_steady, absorbed_steady, over_steady, took_steady, rested_steady, read_steady, page_steady, session_steady, none_asks, ended_steady}
-use Rattle.rl_worldputs.specs.Uses.{Use, IsUse, IsUseBy, IsSent, IsPublishOf, HasNumber, IsWishUsing, IsActorUsing, IsLinkUsing, IsGivenId, IsNew, MayServe, OnLatest, IsClientUsing, IsPutUsing, IsUsing, HasUses}
-use Rattle.rl_clientmodel.specs.Commands.{head_on}
-use Rattle.rl_types.specs.declared.frames.Frame.TheVariants as frames
-use Rattle.rl_worldputs.proofs.Using.{push_one, link_stays, channel_stays}
-use Rattle.rl_worldputs.proofs.Clients.{other_client}
-use Rattle.rl_worldputs.proofs.Turned.{changed_latest}
-use Rattle.rl_worldputs.proofs.Recovery.{owned_by, owned_self, owned_given}
-use Rattle.rl_worldputs.proofs.Hands.{FitsHand, replied_hand, absorbed_hand, over_hand, took_hand, rested_hand, read_hand, page_hand, session_hand}
-use Rattle.rl_worldputs.proofs.Naming.{Leaves, leaves_all, leaves_book, leaves_event, leaves_name, name_at, name_fits}
+use Rattle.rl_worldmodel.specs.World.{World, Transport, the_range, on_transport, changed_at, names}
+use Rattle.rl_worldmodel.specs.Calls.{reply_to, called, event_onto, with_name}
+use Rattle.rl_worldmodel.specs.Actors.{with_call, absorbs, performs}
+use Rattle.rl_worldtold.specs.Truth.{names_of, IsHeldBy}
+use Rattle.rl_worldtold.proofs.Shape.{all_at, changed_one, changed_none}
+use Rattle.rl_worldtold.proofs.Asks.{IsSteady, IsLater, replied_steady, absorbed_steady}
 
-use Rattle.rl_worldputs.proofs.Serving.{IsSameOrFirst, given_grows, serve_using, steady_each, serve_steady, call_same, serve_call, serve_wish, link_works, works_holder, link_named}
-use Rattle.rl_worldputs.proofs.Serving.{works_service}
-use Rattle.rl_numbers.specs.declared.codes.TheConstants.{CHANNEL_LIMIT}
+use Rattle.rl_worldputs.proofs.Serving.{IsSameOrFirst, call_same}
 use Rattle.rl_events.specs.declared.book.BookReply.{BookReply}
 use Rattle.rl_events.specs.declared.book.BookReply.TheVariants as book
 use Rattle.rl_events.specs.declared.channel.Outcome.{Outcome}
 use Rattle.rl_events.specs.declared.channel.Outcome.TheVariants.{Taken, Refused}
 use Rattle.rl_events.specs.declared.channel.Verdict.{Verdict}
-use Rattle.rl_events.specs.declared.channel.Verdict.TheVariants.{Done, Old}
+use Rattle.rl_events.specs.declared.channel.Verdict.TheVariants.{Done}
 use Rattle.rl_events.specs.declared.calls.DirReply.TheVariants as dirs
 use Rattle.rl_events.specs.declared.calls.Reply.TheVariants as replies
-use Rattle.rl_connbook.specs.Laws.{SomeOf, IsEndOf}
-use Rattle.rl_connbook.proofs.Each.{all_append, all_some}
+use Rattle.rl_connbook.specs.Laws.{IsEndOf}
+use Rattle.rl_connbook.proofs.Each.{all_some}
 use Rattle.rl_connbook.proofs.Outcomes.{known_is_end}
 use Rattle.rl_directory.specs.Directory.{is_full}
 use Rattle.rl_directory.specs.Directory as directory
 use Rattle.rl_model.specs.History.{setting}
 use Rattle.rl_model.specs.Verdict.{decisions, verdict}
 use Rattle.rl_model.specs.Reply as channel
-use Rattle.rl_actormodel.specs.Replies.{Beginning, Knows, beginning, Numbering, HasNone, numbering, verdict_in}
-use Rattle.rl_runs.specs.declared.commands.Hello.{Hello}
-use Rattle.rl_clientmodel.specs.States.{new_state}
-use Rattle.rl_worldmodel.specs.World.{past_of, the_epoch, the_site, history, new_transport, on_client, with_put, without_rest}
-use Rattle.rl_worldmodel.specs.Clients.{cut_off, put_unless, takes_frames, Arrival, Comes, arrival, gives_frame}
-use Rattle.rl_worldmodel.specs.Calls.{with_book_event, named_by}
+use Rattle.rl_actormodel.specs.Replies.{Knows, beginning, HasNone, numbering, verdict_in}
+use Rattle.rl_worldmodel.specs.World.{past_of, the_epoch, the_site, history}
+use Rattle.rl_worldmodel.specs.Calls.{named_by}
 use Rattle.rl_worldtold.specs.Told.{IsRefused}
-use Rattle.rl_worldtold.specs.Truth.{Decides, OnHolder, IsTrueService}
-use Rattle.rl_worldtold.proofs.Shape.{all_take, some_append, changed_some, some_changed, map_changed, get_below, changed_all, name_beside}
-use Rattle.rl_worldtold.proofs.Quiet.{IsQuiet}
-use Rattle.rl_worldputs.specs.Refusals.{IsOf, HasTaken, IsTakenUp, IsShutOut, IsRefusal, IsWishSo, IsFrameSo, IsEndSo, IsActorSo, IsLinkSo, IsRefusing}
-use Rattle.rl_worldputs.proofs.Refusing.{frame_held, FitsSo, replied_so, absorbed_so, over_so, took_so, rested_so, read_so, page_so, session_so}
+use Rattle.rl_worldtold.specs.Truth.{Decides}
+use Rattle.rl_worldtold.proofs.Shape.{some_append, changed_some, some_changed, map_changed, get_below, name_beside}
+use Rattle.rl_worldputs.specs.Refusals.{HasTaken, IsTakenUp, IsRefusal, IsWishSo, IsEndSo, IsActorSo, IsLinkSo, IsRefusing}
+use Rattle.rl_worldputs.proofs.Refusing.{FitsSo, replied_so, absorbed_so}
 
-use Rattle.rl_worldputs.proofs.Refusals.{Lasts, lasts, end_stays, link_stays_so, some_at, some_take_more, some_take_twice, some_take_next, some_take_new, works_taken, works_so}
+use Rattle.rl_worldputs.proofs.Lasting.{Lasts, lasts, end_stays, link_stays_so, some_at, works_taken, works_so}
 
 -- CHANNELS
 
