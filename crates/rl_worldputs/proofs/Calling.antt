@@ -26,7 +26,6 @@ use Rattle.rl_worldmodel.specs.Actors.{with_call, absorbs, performs}
 use Rattle.rl_worldtold.specs.Truth.{names_of, IsHeldBy}
 use Rattle.rl_worldtold.proofs.Shape.{all_at, changed_one, changed_none}
 use Rattle.rl_worldtold.proofs.Asks.{IsSteady, IsLater, replied_steady, absorbed_steady}
-
 use Rattle.rl_worldputs.proofs.Serving.{IsSameOrFirst, call_same}
 use Rattle.rl_events.specs.declared.book.BookReply.{BookReply}
 use Rattle.rl_events.specs.declared.book.BookReply.TheVariants as book
@@ -52,7 +51,6 @@ use Rattle.rl_worldtold.specs.Truth.{Decides}
 use Rattle.rl_worldtold.proofs.Shape.{some_append, changed_some, some_changed, map_changed, get_below, name_beside}
 use Rattle.rl_worldputs.specs.Refusals.{HasTaken, IsTakenUp, IsRefusal, IsWishSo, IsEndSo, IsActorSo, IsLinkSo, IsRefusing}
 use Rattle.rl_worldputs.proofs.Refusing.{FitsSo, replied_so, absorbed_so}
-
 use Rattle.rl_worldputs.proofs.Lasting.{Lasts, lasts, end_stays, link_stays_so, some_at, works_taken, works_so}
 
 -- CHANNELS
@@ -140,8 +138,11 @@ pub perform_so : (world : World) (k : ℕ) (call : Call) → (holds : (t : Trans
     → IsRefusing world → Passes world (performs k call world)
 perform_so world k call holds new good h =
     let l = call_lasts world k call holds in
-    record { lasting = l; refusing = serve_so world (called call world) k (absorbs call world) (called_links call world) l (ends_called call world (performs k call world) l new h)
-    (λ t found link. works_so (RefusalAfter k call world) (TakenAfter k call world) (absorbed call (reply_to call world) world.now) (with_call call world t) (holds t found) (good t found link.of_actor) link.on_way) h }
+    record {
+      lasting = l;
+      refusing = serve_so world (called call world) k (absorbs call world) (called_links call world) l (ends_called call world (performs k call world) l new h)
+          (λ t found link. works_so (RefusalAfter k call world) (TakenAfter k call world) (absorbed call (reply_to call world) world.now) (with_call call world t) (holds t found) (good t found link.of_actor) link.on_way) h;
+    }
 
 -- the call of a wish
 pub wish_so : (world : World) (k : ℕ) (t : Transport) (wish : Wish) (call : Call) → slice_get world.transports k ≡ Some t → t.actor.wish ≡ wish → IsHeldBy t.actor.holder wish → IsSameOrFirst t.actor.holder (absorbed call (reply_to call world) world.now t.actor).holder

@@ -141,10 +141,10 @@ other_client uses later owner world after held c on apart grown h = record {
   ready = λ is. on _ (λ k t at found uncut g same. elim (h.ready is k t at found uncut g same) [
     | inl mine ↦ inl mine
     | inr new ↦ inr (record {
-        mine = new.mine;
-        other = new.other;
-        unused = λ serial channel used. elim (grown.only (conn_text g.conn) serial channel used) [ inl wrong ↦ apart (conn_text g.conn) wrong new.mine | inr old ↦ new.unused serial channel old ];
-      })
+      mine = new.mine;
+      other = new.other;
+      unused = λ serial channel used. elim (grown.only (conn_text g.conn) serial channel used) [ inl wrong ↦ apart (conn_text g.conn) wrong new.mine | inr old ↦ new.unused serial channel old ];
+    })
   ]);
 }
 

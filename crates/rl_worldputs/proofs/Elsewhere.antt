@@ -15,7 +15,6 @@ use Rattle.rl_worldmodel.specs.World.{World, Transport, on_transport, changed_at
 use Rattle.rl_worldmodel.specs.Calls.{event_onto, with_name}
 use Rattle.rl_worldmodel.specs.Services.{feed_conn, expires, reaped, event_at, fed_at}
 use Rattle.rl_worldtold.specs.Truth.{Channels, names_of}
-
 use Rattle.rl_connbook.proofs.Each.{all_append}
 use Rattle.rl_runs.specs.declared.commands.Hello.{Hello}
 use Rattle.rl_worldmodel.specs.World.{new_transport}
@@ -25,7 +24,6 @@ use Rattle.rl_worldtold.specs.Truth.{Decides}
 use Rattle.rl_worldtold.proofs.Shape.{all_take, some_append, changed_some, map_changed, name_beside}
 use Rattle.rl_worldtold.proofs.Quiet.{IsQuiet}
 use Rattle.rl_worldputs.specs.Refusals.{IsOf, HasTaken, IsTakenUp, IsRefusal, IsWishSo, IsLinkSo, IsRefusing}
-
 use Rattle.rl_worldputs.proofs.Lasting.{Lasts, lasts, link_stays_so, some_take_more, some_take_twice}
 use Rattle.rl_worldputs.proofs.Calling.{AreEndsSo, serve_so, ends_last, decides_called, full_called}
 use Rattle.rl_worldputs.proofs.Wishing.{change_lasts}

@@ -17,7 +17,6 @@ use Rattle.rl_worldmodel.specs.Actors.{put_out_unless, works}
 use Rattle.rl_worldtold.specs.Truth.{names_of}
 use Rattle.rl_worldtold.proofs.Shape.{works_actor}
 use Rattle.rl_types.specs.declared.frames.Frame.TheVariants as frames
-
 use Rattle.rl_worldputs.proofs.Serving.{IsSameOrFirst, works_holder}
 use Rattle.rl_worldputs.proofs.Serving.{works_service}
 use Rattle.rl_events.specs.declared.channel.Outcome.{Outcome}
@@ -29,7 +28,6 @@ use Rattle.rl_worldtold.specs.Told.{IsRefused}
 use Rattle.rl_worldtold.specs.Truth.{Decides, OnHolder}
 use Rattle.rl_worldputs.specs.Refusals.{IsOf, HasTaken, IsTakenUp, IsRefusal, IsWishSo, IsFrameSo, IsEndSo, IsActorSo, IsLinkSo}
 use Rattle.rl_worldputs.proofs.Refusing.{frame_held}
-
 
 -- WHAT IS SO STAYS SO
 
@@ -79,11 +77,11 @@ lasts world after decides full got = record {
   so = λ conn serial code is. elim is [
     | inl decided ↦ inl (decides conn serial code decided)
     | inr out ↦ inr (record {
-        channel = out.channel;
-        full = ap is_full (full out.full) ∙ out.full;
-        none = ap (number_of out.channel) (full out.full) ∙ out.none;
-        taken = got conn serial out.channel out.taken;
-      })
+      channel = out.channel;
+      full = ap is_full (full out.full) ∙ out.full;
+      none = ap (number_of out.channel) (full out.full) ∙ out.none;
+      taken = got conn serial out.channel out.taken;
+    })
   ];
   got = got;
 }
@@ -128,9 +126,10 @@ held_first before after conn (inr same) is = subst (λ (o : Option Holder). OnHo
 
 -- an actor that works has taken up what it had
 pub works_taken : (act : actor.State → actor.State) (t : Transport) (conn serial : ℕ) (channel : List ℕ) → IsSameOrFirst t.actor.holder (act t.actor).holder → HasTaken conn serial channel t → HasTaken conn serial channel (works act t)
-works_taken act t conn serial channel holds is =
-    (subst (λ (o : Option Holder). OnHolder o (λ h. h.conn ≡ conn)) (sym (works_holder act t)) (held_first t.actor.holder (act t.actor).holder conn holds is.0),
-    subst (λ (way : Way). SomeOf (IsOf serial channel) (take way.got way.put)) (sym (works_service act t)) is.1)
+works_taken act t conn serial channel holds is = (
+  subst (λ (o : Option Holder). OnHolder o (λ h. h.conn ≡ conn)) (sym (works_holder act t)) (held_first t.actor.holder (act t.actor).holder conn holds is.0),
+  subst (λ (way : Way). SomeOf (IsOf serial channel) (take way.got way.put)) (sym (works_service act t)) is.1,
+)
 
 -- WHAT AN ACTOR PUTS OUT
 

@@ -24,7 +24,6 @@ use Rattle.rl_worldtold.proofs.Shape.{all_at, get_changed}
 use Rattle.rl_worldtold.proofs.Answers.{arrives}
 use Rattle.rl_worldtold.proofs.Telling.{named_all, in_all}
 use Rattle.rl_worldputs.proofs.Clients.{linked_at}
-
 use Rattle.rl_runs.specs.declared.findings.Answer.TheVariants.{Ack, Nack}
 use Rattle.rl_ackq.specs.Queue.{settled_serials}
 use Rattle.rl_clientmodel.specs.Hearing.{id_of, stands_with}

@@ -141,7 +141,7 @@ module _ (uses : List Use) (owner : List ℕ → Option (List ℕ)) (world : Wor
         apart = subst AreDistinct (sym now) (distinct_more name (names_of world.channels) (number_none name (names_of world.channels) none) h.apart);
         puts = subst (AllByRecursion (IsChannelUsing uses)) (sym channels) (all_append (IsChannelUsing uses) world.channels ((name, []) ∷ []) h.puts (tt, tt));
         fed = fed;
-    links = links;
+        links = links;
         clients = clients;
       }
 

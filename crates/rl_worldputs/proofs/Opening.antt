@@ -52,9 +52,11 @@ hears_turns uses owner world name k t channels (frames.Connected id key ttl idle
     connected_by None same is = absurd is
     connected_by (Some holder) same is =
         connected_turns uses owner world name (awaits_connected s.conn) id key now s single refl h
-        (λ c. (subst (λ (x : List ℕ). (s.id ≡ Some x) ⊎ IsNew uses owner name s.id x) (sym is.0) (h.ready c k t at found uncut holder same),
-        found_same world name k t (λ u. OnHolder u.actor.holder (λ g. Some id ≡ Some (conn_text g.conn))) at found
-        (subst (λ (o : Option Holder). OnHolder o (λ g. Some id ≡ Some (conn_text g.conn))) (sym same) (ap (λ (x : List ℕ). Some x) is.0))))
+        (λ c. (
+          subst (λ (x : List ℕ). (s.id ≡ Some x) ⊎ IsNew uses owner name s.id x) (sym is.0) (h.ready c k t at found uncut holder same),
+          found_same world name k t (λ u. OnHolder u.actor.holder (λ g. Some id ≡ Some (conn_text g.conn))) at found
+              (subst (λ (o : Option Holder). OnHolder o (λ g. Some id ≡ Some (conn_text g.conn))) (sym same) (ap (λ (x : List ℕ). Some x) is.0)),
+        ))
 hears_turns uses owner world name k t channels (frames.Ack serial count) now s at found uncut is single linked h =
     turns_made uses owner world name s (hears (frames.Ack serial count) now s) h linked (calm_settled (takes_acknowledgements s.conn) serial count _ s) (makes_hears uses single (frames.Ack serial count) now s tt h.numbered)
 hears_turns uses owner world name k t channels (frames.Nack serial count code) now s at found uncut is single linked h =

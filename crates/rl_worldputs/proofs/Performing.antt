@@ -36,7 +36,6 @@ use Rattle.rl_worldputs.proofs.Turned.{changed_latest}
 use Rattle.rl_worldputs.proofs.Recovery.{owned_by, owned_self, owned_given}
 use Rattle.rl_worldputs.proofs.Hands.{replied_hand, absorbed_hand}
 use Rattle.rl_worldputs.proofs.Naming.{leaves_book}
-
 use Rattle.rl_worldputs.proofs.Serving.{given_grows, serve_using, call_same, link_works, works_holder}
 
 -- A CONNECTION THAT IS BROUGHT BACK
@@ -153,10 +152,10 @@ serve_opens uses owner world k t event given_ key found is none same_answer open
           (sym (works_holder (absorbed (calls.Book event) (reply_to (calls.Book event) world) world.now) (with_call (calls.Book event) world u)) ∙ same)) [
             | inl old ↦ may_still c u.actor.holder p.0 g old
             | inr one ↦ inr (subst (λ (x : Holder). IsNew uses (owned_by (conn_text given_.conn) t.owner owner) c.0 c.1.id (conn_text x.conn)) one (record {
-                mine = owned_self (conn_text given_.conn) t.owner owner ∙ ap (λ (x : List ℕ). Some x) (ap (λ (v : Transport). v.owner) (call_same world k t u found found_u) ∙ p.1);
-                other = λ held. fresh world.book given_.conn (conn_text given_.conn) next small (h.owned (conn_text given_.conn) c.0 (is_client.own (conn_text given_.conn) held)) refl;
-                unused = λ serial channel used. fresh world.book given_.conn (conn_text given_.conn) next small (h.given (conn_text given_.conn) serial channel used) refl;
-              }))
+              mine = owned_self (conn_text given_.conn) t.owner owner ∙ ap (λ (x : List ℕ). Some x) (ap (λ (v : Transport). v.owner) (call_same world k t u found found_u) ∙ p.1);
+              other = λ held. fresh world.book given_.conn (conn_text given_.conn) next small (h.owned (conn_text given_.conn) c.0 (is_client.own (conn_text given_.conn) held)) refl;
+              unused = λ serial channel used. fresh world.book given_.conn (conn_text given_.conn) next small (h.given (conn_text given_.conn) serial channel used) refl;
+            }))
           ])
           c.0 (λ j u at found_u uncut. (is_client.ready on j u at found_u uncut, latest_owner world c.0 j u at found_u uncut));
     })
@@ -166,10 +165,10 @@ serve_opens uses owner world k t event given_ key found is none same_answer open
     may_still c holder may g same = elim (may g same) [
       | inl mine ↦ inl mine
       | inr n ↦ inr (record {
-          mine = owned_apart (conn_text given_.conn) t.owner (conn_text g.conn) c.0 owner (bytes_eq (conn_text g.conn) (conn_text given_.conn)) refl (λ one. fresh world.book given_.conn (conn_text g.conn) next small (h.owned (conn_text g.conn) c.0 n.mine) one) n.mine;
-          other = n.other;
-          unused = n.unused;
-        })
+        mine = owned_apart (conn_text given_.conn) t.owner (conn_text g.conn) c.0 owner (bytes_eq (conn_text g.conn) (conn_text given_.conn)) refl (λ one. fresh world.book given_.conn (conn_text g.conn) next small (h.owned (conn_text g.conn) c.0 n.mine) one) n.mine;
+        other = n.other;
+        unused = n.unused;
+      })
     ]
 
 -- one that gave none

@@ -84,9 +84,11 @@ use_on uses owner world conn serial number h put = by_channel (slice_get world.c
   where
     by_channel : (o : Option (List ℕ × List ChannelEvent)) → slice_get world.channels number ≡ o → SomeOf (IsPutBy conn serial) (past_of o) → (name : List ℕ) × HasNumber (names_of world.channels) name number × IsUse uses (conn_text conn) serial name
     by_channel None found put = absurd put
-    by_channel (Some c) found put =
-        (c.0, name_at number world.channels c found,
-        all_some (IsPutUsing uses c.0) (IsPutBy conn serial) (IsUse uses (conn_text conn) serial c.0) c.1 (put_is_use uses c.0 conn serial) (all_at (IsChannelUsing uses) number c world.channels found h.puts) put)
+    by_channel (Some c) found put = (
+      c.0,
+      name_at number world.channels c found,
+      all_some (IsPutUsing uses c.0) (IsPutBy conn serial) (IsUse uses (conn_text conn) serial c.0) c.1 (put_is_use uses c.0 conn serial) (all_at (IsChannelUsing uses) number c world.channels found h.puts) put,
+    )
 
 one_channel : (world : World) → HasUses world → PutsEachOnOne world
 one_channel world h conn serial first second one two =

@@ -97,11 +97,11 @@ module _ (uses : List Use) (owner : List ℕ → Option (List ℕ)) where
   died_turn : (name : List ℕ) (state : ClientState) (world : World) → IsClientUsing uses owner world (name, state) → IsUsing uses owner world → Died name (turned name (acted Die world.now state) world)
   died_turn name state world good h =
       let fits_one : IsUsing uses owner (on_client name (λ _. conn_moved events.Died world.now state) world) =
-          client_using uses owner world name (λ _. conn_moved events.Died world.now state)
-          (λ c same is. subst (λ (n : List ℕ). IsClientUsing uses owner world (n, conn_moved events.Died world.now state)) same
-          (held_client uses owner world name state (conn_moved events.Died world.now state) (calm_steps state (conn_moved events.Died world.now state) (steps_acted Die world.now state tt)) (moved_held uses h.single events.Died world.now state) good)) h in
+      client_using uses owner world name (λ _. conn_moved events.Died world.now state)
+      (λ c same is. subst (λ (n : List ℕ). IsClientUsing uses owner world (n, conn_moved events.Died world.now state)) same
+      (held_client uses owner world name state (conn_moved events.Died world.now state) (calm_steps state (conn_moved events.Died world.now state) (steps_acted Die world.now state tt)) (moved_held uses h.single events.Died world.now state) good)) h in
       let fits_two : IsUsing uses owner (sends name [] (on_client name (λ _. conn_moved events.Died world.now state) world)) =
-          sent_using uses owner (latest name (on_client name (λ _. conn_moved events.Died world.now state) world)) [] (on_client name (λ _. conn_moved events.Died world.now state) world) (λ k t at found uncut. tt) fits_one in
+      sent_using uses owner (latest name (on_client name (λ _. conn_moved events.Died world.now state) world)) [] (on_client name (λ _. conn_moved events.Died world.now state) world) (λ k t at found uncut. tt) fits_one in
       let dead_two = sent_dead name (latest name (on_client name (λ _. conn_moved events.Died world.now state) world)) [] (on_client name (λ _. conn_moved events.Died world.now state) world) (all_named name (conn_moved events.Died world.now state) (died_id world.now state, died_off world.now state) world.clients) in
       record {
         fits = if_using uses owner (acted Die world.now state).output.drop_link name (sends name [] (on_client name (λ _. conn_moved events.Died world.now state) world)) fits_two;
@@ -146,10 +146,10 @@ module _ (uses : List Use) (owner : List ℕ → Option (List ℕ)) (world : Wor
     ready = λ is k t at found uncut g same. elim (h.ready is k t at found uncut g same) [
       | inl mine ↦ inl mine
       | inr new ↦ inr (record {
-          mine = owned_other id name other (conn_text g.conn) c.0 owner (bytes_eq (conn_text g.conn) id) refl was (λ one. (dead one).1 is) new.mine;
-          other = new.other;
-          unused = new.unused;
-        })
+        mine = owned_other id name other (conn_text g.conn) c.0 owner (bytes_eq (conn_text g.conn) id) refl was (λ one. (dead one).1 is) new.mine;
+        other = new.other;
+        unused = new.unused;
+      })
     ];
   }
 

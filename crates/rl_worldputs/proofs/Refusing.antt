@@ -61,12 +61,6 @@ module _ (R : ℕ → ℕ → ℕ → Type 0) (G : ℕ → ℕ → List ℕ → 
   frame_held before after (inl none) frame is = none_lift after frame (subst (λ (o : Option Holder). IsFrameSo R o frame) none is)
   frame_held before after (inr same) frame is = subst (λ (o : Option Holder). IsFrameSo R o frame) (sym same) is
 
-  nothing_so : (s after : State) → after.holder ≡ s.holder → after.waiting ≡ s.waiting → IsWishSo R G after.wish → IsActorSo R G s → IsActorSo R G after
-  nothing_so s after holder waiting wish h = record {
-    wishing = wish;
-    out = subst (AllByRecursion (IsFrameSo R after.holder)) (sym waiting) (subst (λ (o : Option Holder). AllByRecursion (IsFrameSo R o) s.waiting) (sym holder) h.out);
-  }
-
   put_so : (frame : Frame) (now : ℕ) (s : State) → IsFrameSo R s.holder frame → IsActorSo R G s → IsActorSo R G (put frame now s)
   put_so frame now s is h = record { wishing = h.wishing; out = all_append (IsFrameSo R s.holder) s.waiting (frame ∷ []) h.out (is, tt) }
 

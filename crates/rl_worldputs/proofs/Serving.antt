@@ -5,7 +5,6 @@ use Rattle.std.specs.List.{AllByRecursion}
 use Rattle.rl_ids.specs.Forms.{conn_text}
 use Rattle.rl_types.specs.declared.frames.Frame.{Frame}
 use Rattle.rl_events.specs.declared.calls.Call.{Call}
-use Rattle.rl_events.specs.declared.calls.Reply.{Reply}
 use Rattle.rl_connbook.specs.Records.{Answered}
 use Rattle.rl_connbook.specs.Book.{last_number}
 use Rattle.rl_connbook.proofs.Each.{all_weaker}
@@ -149,10 +148,9 @@ pub serve_wish : (uses : List Use) (owner : List ℕ → Option (List ℕ)) (wor
     → reads.answered call (reply_to call world) world.now t.actor ≡ replied t.actor.wish (reply_to call world) world.now t.actor → Leaves uses world (called call world) → FitsHand uses (names_of (called call world).channels) wish (reply_to call world)
     → IsTelling world → IsUsing uses owner world → IsUsing uses owner (performs k call world)
 serve_wish uses owner world k t wish call found is later same l fits telling h =
-    let reply : Reply = reply_to call world in
     let state : reads.answered call (reply_to call world) world.now t.actor ≡ replied wish (reply_to call world) world.now t.actor = same ∙ ap (λ (w : Wish). replied w (reply_to call world) world.now t.actor) is in
     let steady : IsSteady t.actor (absorbed call (reply_to call world) world.now t.actor) =
-        absorbed_steady t.actor.ended call (reply_to call world) world.now t.actor (subst (IsSteady t.actor) (sym state) (replied_steady wish later (reply_to call world) world.now t.actor)) in
+    absorbed_steady t.actor.ended call (reply_to call world) world.now t.actor (subst (IsSteady t.actor) (sym state) (replied_steady wish later (reply_to call world) world.now t.actor)) in
     serve_call uses owner world k call l
     (λ u found_u. subst (λ (v : Transport). (absorbed call (reply_to call world) world.now v.actor).holder ≡ v.actor.holder) (call_same world k t u found found_u) steady.holder)
     (λ u found_u good. subst (λ (v : Transport). IsActorUsing uses (names_of (called call world).channels) v.actor → IsActorUsing uses (names_of (called call world).channels) (absorbed call (reply_to call world) world.now v.actor)) (call_same world k t u found found_u)

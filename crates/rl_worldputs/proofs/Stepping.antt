@@ -52,7 +52,6 @@ use Rattle.rl_worldputs.proofs.Clients.{other_client}
 use Rattle.rl_worldputs.proofs.Recovery.{owned_by}
 use Rattle.rl_worldputs.proofs.Hands.{FitsHand, replied_hand, absorbed_hand, over_hand, took_hand, rested_hand, read_hand, page_hand, session_hand}
 use Rattle.rl_worldputs.proofs.Naming.{Leaves, leaves_all, leaves_book, leaves_event, leaves_name, name_at, name_fits}
-
 use Rattle.rl_worldputs.proofs.Serving.{given_grows, serve_steady, call_same, serve_call, serve_wish, link_named}
 use Rattle.rl_worldputs.proofs.Performing.{serve_resume, serve_opens, opened_steady}
 
@@ -83,9 +82,9 @@ stay_open : (world : World) (k : ℕ) (t : Transport) → slice_get world.transp
     → ((g : Holder) (key : List ℕ) → opening (reply_to (calls.Book (events.Open t.actor.hello.word world.now)) world) ≡ Opens g key → ⊥) → HasUses (performs k (calls.Book (events.Open t.actor.hello.word world.now)) world)
 stay_open world k t found is telling h not =
     let state : reads.answered (calls.Book (events.Open t.actor.hello.word world.now)) (reply_to (calls.Book (events.Open t.actor.hello.word world.now)) world) world.now t.actor ≡ replied wishes.Open (reply_to (calls.Book (events.Open t.actor.hello.word world.now)) world) world.now t.actor =
-        ap (λ (w : Wish). replied w (reply_to (calls.Book (events.Open t.actor.hello.word world.now)) world) world.now t.actor) is in
+    ap (λ (w : Wish). replied w (reply_to (calls.Book (events.Open t.actor.hello.word world.now)) world) world.now t.actor) is in
     let steady = absorbed_steady t.actor.ended (calls.Book (events.Open t.actor.hello.word world.now)) (reply_to (calls.Book (events.Open t.actor.hello.word world.now)) world) world.now t.actor
-        (subst (IsSteady t.actor) (sym state) (opened_steady (opening (reply_to (calls.Book (events.Open t.actor.hello.word world.now)) world)) world.now t.actor not)) in
+    (subst (IsSteady t.actor) (sym state) (opened_steady (opening (reply_to (calls.Book (events.Open t.actor.hello.word world.now)) world)) world.now t.actor not)) in
     record {
       uses = h.uses;
       owner = h.owner;

@@ -64,10 +64,10 @@ may_later uses later owner name before after holder same grown may h is =
     elim (may h is) [
       | inl mine ↦ inl (same ∙ mine)
       | inr new ↦ inr (record {
-          mine = new.mine;
-          other = λ wrong. new.other (sym same ∙ wrong);
-          unused = λ serial channel used. elim (grown.only (conn_text h.conn) serial channel used) [ inl wrong ↦ new.other (sym same ∙ wrong) | inr old ↦ new.unused serial channel old ];
-        })
+        mine = new.mine;
+        other = λ wrong. new.other (sym same ∙ wrong);
+        unused = λ serial channel used. elim (grown.only (conn_text h.conn) serial channel used) [ inl wrong ↦ new.other (sym same ∙ wrong) | inr old ↦ new.unused serial channel old ];
+      })
     ]
 
 pub turns_made : (uses : List Use) (owner : List ℕ → Option (List ℕ)) (world : World) (name : List ℕ) (before : ClientState) (turn : Turn) → IsClientUsing uses owner world (name, before) → IsLinked world name before → IsCalmed before turn.state → Makes uses before turn

@@ -33,7 +33,7 @@ use Rattle.rl_clientmodel.specs.States.{ClientState, Turn, quietly, sending, cha
 use Rattle.rl_clientmodel.specs.Commands.{Refusal, refusal, acted, obeyed, obeyed_unless, if_connected, enqueued, head_on, unnumbered, presence_frame, attach_step, detach_step, channel_or_new, with_own, without_own}
 use Rattle.rl_clientmodel.specs.Hearing.{all_enqueued, entering, entered_again, attached_in, error_got, hears, settle, id_of, all_pushed, all_numbered}
 use Rattle.rl_clientmodel.specs.Answers.{attached_got, is_answer}
-use Rattle.rl_clientmodel.specs.Times.{unlinked, ticked, is_past_ttl, is_silent, waited}
+use Rattle.rl_clientmodel.specs.Times.{ticked, is_past_ttl, is_silent, waited}
 use Rattle.rl_worldputs.specs.Uses.{Use, AreSingle, IsPlain, IsUseOf, IsNumbered}
 use Rattle.rl_worldputs.proofs.Using.{Grows, grows_same, Pushes, push_one, push_all}
 
@@ -124,9 +124,6 @@ module _ (uses : List Use) (single : AreSingle uses) where
   makes_changed : (name : List ℕ) (change : ClientChannel → ClientChannel) (o : Option ClientChannel) (s : ClientState) → AreNumbered uses s → Makes uses s (quietly (changed name change o s))
   makes_changed name change None s h = makes_held s (quietly s) h (inr (refl, refl)) tt
   makes_changed name change (Some channel) s h = makes_held s (quietly (changed name change (Some channel) s)) h (inr (refl, refl)) tt
-
-  pub makes_unlinked : (now : ℕ) (s : ClientState) → AreNumbered uses s → Makes uses s (unlinked now s)
-  makes_unlinked now s h = makes_held s (unlinked now s) h (moved_held events.Down now s) tt
 
   -- FRAMES THAT ARE QUEUED
 

@@ -30,13 +30,11 @@ use Rattle.rl_worldtold.specs.Truth.{IsHeldBy, IsTrueTransport, IsTrueWorld}
 use Rattle.rl_worldtold.proofs.Shape.{all_at}
 use Rattle.rl_worldtold.proofs.Sessions.{IsOfSession, pages_are, polls_are}
 use Rattle.rl_worldtold.proofs.Asks.{IsSteady, absorbed_steady, over_steady, took_steady, rested_steady, read_steady, page_steady, session_steady}
-
 use Rattle.rl_worldputs.proofs.Serving.{IsSameOrFirst, call_same}
 use Rattle.rl_worldtold.specs.Truth.{OnHolder, IsTrueWish}
 use Rattle.rl_worldtold.proofs.Shape.{changed_some, some_changed}
 use Rattle.rl_worldputs.specs.Refusals.{IsOf, HasTaken, IsTakenUp, IsRefusal, IsWishSo, IsFrameSo, IsEndSo, IsActorSo, IsLinkSo, IsRefusing}
 use Rattle.rl_worldputs.proofs.Refusing.{FitsSo, absorbed_so, over_so, took_so, rested_so, read_so, page_so, session_so}
-
 use Rattle.rl_worldputs.proofs.Lasting.{wish_stays, Lasts, lasts, some_take_next, some_take_new, works_taken, works_so}
 use Rattle.rl_worldputs.proofs.Stepping.{true_held}
 use Rattle.rl_worldputs.proofs.Calling.{Passes, RefusalAfter, TakenAfter, serve_so, ends_last, call_lasts, perform_so, wish_so, later_holds, known_refused, put_refused, shut_fits, finish_end}
@@ -136,11 +134,14 @@ works_refuse : (world : World) (k : ℕ) (act : actor.State → actor.State) (on
     → IsRefusing world → Passes world (on_transport k (λ t. works act (on t)) world)
 works_refuse world k act on actors ways taken steady step h =
     let l = change_lasts world k (λ u. works act (on u)) (λ t conn serial channel has. works_taken act (on t) conn serial channel (inr (steady (on t).actor).holder) (taken t conn serial channel has)) in
-    record { lasting = l; refusing = serve_so world world k (λ t. works act (on t)) refl l (ends_last world (on_transport k (λ t. works act (on t)) world) l h)
-    (λ t found link. works_so (RefusalOn world k (λ u. works act (on u))) (TakenOn world k (λ u. works act (on u))) act (on t) (inr (steady (on t).actor).holder)
-    (subst (λ (s : actor.State). IsActorSo (RefusalOn world k (λ u. works act (on u))) (TakenOn world k (λ u. works act (on u))) (act s)) (sym (actors t)) (step t found link.of_actor))
-    (subst (λ (s : actor.State). AllByRecursion (IsFrameSo (RefusalOn world k (λ u. works act (on u))) s.holder) (on t).to_client.put) (sym (actors t))
-    (subst (λ (way : Way). AllByRecursion (IsFrameSo (RefusalOn world k (λ u. works act (on u))) t.actor.holder) way.put) (sym (ways t)) link.on_way))) h }
+    record {
+      lasting = l;
+      refusing = serve_so world world k (λ t. works act (on t)) refl l (ends_last world (on_transport k (λ t. works act (on t)) world) l h)
+          (λ t found link. works_so (RefusalOn world k (λ u. works act (on u))) (TakenOn world k (λ u. works act (on u))) act (on t) (inr (steady (on t).actor).holder)
+          (subst (λ (s : actor.State). IsActorSo (RefusalOn world k (λ u. works act (on u))) (TakenOn world k (λ u. works act (on u))) (act s)) (sym (actors t)) (step t found link.of_actor))
+          (subst (λ (s : actor.State). AllByRecursion (IsFrameSo (RefusalOn world k (λ u. works act (on u))) s.holder) (on t).to_client.put) (sym (actors t))
+          (subst (λ (way : Way). AllByRecursion (IsFrameSo (RefusalOn world k (λ u. works act (on u))) t.actor.holder) way.put) (sym (ways t)) link.on_way))) h;
+    }
 
 abbrev one_got : Transport → Transport
 one_got t = record t { to_service = with_one_got t.to_service }
