@@ -16,10 +16,12 @@ use Rattle.rl_worldmodel.specs.Clients.{cut_off, unlinks, cut_unless, cut_where,
 use Rattle.rl_worldmodel.specs.Services.{feed_conn}
 use Rattle.rl_worldtold.specs.Truth.{IsLinked, IsTrueWorld, names_of}
 use Rattle.rl_worldtold.proofs.Shape.{all_at, all_take, changed_one, changed_none, same_bytes, self_bytes}
+use Rattle.rl_runs.specs.declared.findings.Answer.{Answer}
+use Rattle.rl_worldtold.specs.Listed.{pair_of}
 use Rattle.rl_worldtold.proofs.Moves.{Steps, IsNoConnect, steps_unlinked, steps_acted, steps_ticked}
 use Rattle.rl_worldtold.proofs.Answers.{found_in}
 use Rattle.rl_worldtold.proofs.Telling.{named_all, in_all, sent_owner, sent_cut, sent_actor}
-use Rattle.rl_worldputs.specs.Uses.{Use, IsSent, IsNumbered, MayServe, OnLatest, IsClientUsing, IsLinkUsing, IsUsing, HasUses}
+use Rattle.rl_worldputs.specs.Uses.{Use, IsBy, IsSent, IsNumbered, MayServe, OnLatest, IsClientUsing, IsLinkUsing, IsUsing, HasUses}
 use Rattle.rl_worldputs.proofs.Using.{Grows, use_of_stays, link_stays, channel_stays}
 use Rattle.rl_worldputs.proofs.Turning.{IsHeld, moved_held, makes_acted, makes_ticked}
 use Rattle.rl_worldputs.proofs.Turned.{Turns, IsCalmed, changed_latest, turns_made}
@@ -31,6 +33,7 @@ pub link_using : (uses : List Use) (owner : List ℕ → Option (List ℕ)) (wor
     → ((t : Transport) → slice_get world.transports k ≡ Some t → IsLinkUsing uses (names_of world.channels) t → IsLinkUsing uses (names_of world.channels) (f t)) → IsUsing uses owner world → IsUsing uses owner (on_transport k f world)
 link_using uses owner world k f owners cuts_ same step h = record {
   single = h.single;
+  givers = h.givers;
   given = h.given;
   owned = h.owned;
   fed = h.fed;
@@ -41,6 +44,7 @@ link_using uses owner world k f owners cuts_ same step h = record {
   each = all_weaker _ _ (λ c is. record {
     own = is.own;
     numbered = is.numbered;
+    listed = is.listed;
     ready = λ on. changed_latest world (on_transport k f world) k f refl owners cuts_ _ _ (λ t may. may) (λ t found may. subst (λ (s : actor.State). MayServe uses owner c.0 c.1.id s.holder) (sym (same t)) may) c.0 (is.ready on);
   }) world.clients h.each;
 }
@@ -51,15 +55,17 @@ link_using uses owner world k f owners cuts_ same step h = record {
         changed_one (IsLinkUsing uses (names_of world.channels)) k f t (step t found (all_at (IsLinkUsing uses (names_of world.channels)) k t world.transports found h.links)) world.transports found h.links
 
 -- a client whose connection and queue stay, or that forgets it
-pub held_client : (uses : List Use) (owner : List ℕ → Option (List ℕ)) (world : World) (name : List ℕ) (before after : ClientState) → IsCalmed before after → IsHeld before after → IsClientUsing uses owner world (name, before) → IsClientUsing uses owner world (name, after)
-held_client uses owner world name before after calm (inl none) h = record {
+pub held_client : (uses : List Use) (owner : List ℕ → Option (List ℕ)) (world : World) (name : List ℕ) (before after : ClientState) → IsCalmed before after → after.answers ≡ before.answers → IsHeld before after → IsClientUsing uses owner world (name, before) → IsClientUsing uses owner world (name, after)
+held_client uses owner world name before after calm told (inl none) h = record {
   own = λ id is. let wrong : None ≡ Some id = sym none ∙ is in absurd (cc);
   numbered = λ id is. let wrong : None ≡ Some id = sym none ∙ is in absurd (cc);
+  listed = subst (AllByRecursion (λ (a : Answer). IsBy uses (pair_of a).0 (pair_of a).1 name)) (sym told) h.listed;
   ready = λ is k t at found uncut. let c = calm is in subst (λ (o : Option (List ℕ)). MayServe uses owner name o t.actor.holder) (sym c.1) (h.ready c.0 k t at found uncut);
 }
-held_client uses owner world name before after calm (inr same) h = record {
+held_client uses owner world name before after calm told (inr same) h = record {
   own = λ id is. h.own id (sym same.0 ∙ is);
-  numbered = λ id is. subst (IsNumbered uses id) (sym same.1) (h.numbered id (sym same.0 ∙ is));
+  numbered = λ id is. subst (IsNumbered uses id name) (sym same.1) (h.numbered id (sym same.0 ∙ is));
+  listed = subst (AllByRecursion (λ (a : Answer). IsBy uses (pair_of a).0 (pair_of a).1 name)) (sym told) h.listed;
   ready = λ is k t at found uncut. let c = calm is in subst (λ (o : Option (List ℕ)). MayServe uses owner name o t.actor.holder) (sym c.1) (h.ready c.0 k t at found uncut);
 }
 
@@ -70,6 +76,7 @@ pub client_using : (uses : List Use) (owner : List ℕ → Option (List ℕ)) (w
     → IsUsing uses owner world → IsUsing uses owner (on_client name f world)
 client_using uses owner world name f step h = record {
   single = h.single;
+  givers = h.givers;
   given = h.given;
   owned = h.owned;
   fed = h.fed;
@@ -77,7 +84,7 @@ client_using uses owner world name f step h = record {
   apart = h.apart;
   puts = h.puts;
   links = h.links;
-  each = all_weaker _ _ (λ c is. record { own = is.own; numbered = is.numbered; ready = is.ready }) (map (if_named name f) world.clients) (named_all (IsClientUsing uses owner world) name f step world.clients h.each);
+  each = all_weaker _ _ (λ c is. record { own = is.own; numbered = is.numbered; listed = is.listed; ready = is.ready }) (map (if_named name f) world.clients) (named_all (IsClientUsing uses owner world) name f step world.clients h.each);
 }
 
 -- CUTS
@@ -89,7 +96,7 @@ cut_using : (uses : List Use) (owner : List ℕ → Option (List ℕ)) (b : Bool
 cut_using uses owner true k t world h = h
 cut_using uses owner false k t world h =
     client_using uses owner (on_transport k cut_off world) t.owner (unlinks world.now)
-    (λ c same is. held_client uses owner (on_transport k cut_off world) c.0 c.1 (unlinks world.now c.1) (calm_steps c.1 (unlinks world.now c.1) (steps_unlinked world.now c.1)) (moved_held uses h.single events.Down world.now c.1) is)
+    (λ c same is. held_client uses owner (on_transport k cut_off world) c.0 c.1 (unlinks world.now c.1) (calm_steps c.1 (unlinks world.now c.1) (steps_unlinked world.now c.1)) (steps_unlinked world.now c.1).answers (moved_held uses c.0 h.single h.givers events.Down world.now c.1) is)
     (link_using uses owner world k cut_off (λ u. refl) (λ u cut. absurd (true≢false cut)) (λ u. refl) (λ u found is. off_link uses (names_of world.channels) u is) h)
 
 where_using : (uses : List Use) (owner : List ℕ → Option (List ℕ)) (k : ℕ) (o : Option Transport) (world : World) → IsUsing uses owner world → IsUsing uses owner (cut_where k o world)
@@ -136,8 +143,9 @@ other_client uses later owner world after held c on apart grown h = record {
   own = h.own;
   numbered = λ id is. let n = h.numbered id is in record {
     below = λ serial channel used. elim (grown.only id serial channel used) [ inl mine ↦ absurd (apart id mine (h.own id is)) | inr old ↦ n.below serial channel old ];
-    waiting = all_weaker _ _ (λ one used. use_of_stays uses later grown.kept id one.frame used) c.1.queue.pending n.waiting;
+    waiting = all_weaker _ _ (λ one used. (use_of_stays uses later grown.kept id one.frame used.0, grown.by id one.serial c.0 used.1)) c.1.queue.pending n.waiting;
   };
+  listed = all_weaker _ _ (λ a used. grown.by (pair_of a).0 (pair_of a).1 c.0 used) c.1.answers h.listed;
   ready = λ is. on _ (λ k t at found uncut g same. elim (h.ready is k t at found uncut g same) [
     | inl mine ↦ inl mine
     | inr new ↦ inr (record {
@@ -160,6 +168,7 @@ each_turned uses later owner world after name state on own grown good (c ∷ cs)
 turned_client : (uses : List Use) (owner : List ℕ → Option (List ℕ)) (name : List ℕ) (turn : Turn) (world : World) → (t : Turns uses owner world name turn) → IsUsing uses owner world → IsUsing t.later owner (on_client name (λ _. turn.state) world)
 turned_client uses owner name turn world t h = record {
   single = t.single;
+  givers = t.givers;
   given = λ id serial channel used. elim (t.grown.only id serial channel used) [ inl mine ↦ h.owned id name (t.client.own id mine) | inr old ↦ h.given id serial channel old ];
   owned = h.owned;
   fed = λ serial channel used. elim (t.grown.only (conn_text feed_conn) serial channel used) [ inl mine ↦ absurd (h.nobody name (t.client.own (conn_text feed_conn) mine)) | inr old ↦ h.fed serial channel old ];
@@ -168,7 +177,7 @@ turned_client uses owner name turn world t h = record {
   puts = all_weaker _ _ (channel_stays uses t.later t.grown.kept) world.channels h.puts;
   links = all_weaker _ _ (link_stays uses t.later t.grown.kept (names_of world.channels)) world.transports h.links;
   each = each_turned uses t.later owner world (on_client name (λ _. turn.state) world) name turn.state (λ other P on. on) t.client.own t.grown
-      (record { own = t.client.own; numbered = t.client.numbered; ready = t.client.ready }) world.clients h.each;
+      (record { own = t.client.own; numbered = t.client.numbered; listed = t.client.listed; ready = t.client.ready }) world.clients h.each;
 }
 
 turned_using : (uses : List Use) (owner : List ℕ → Option (List ℕ)) (name : List ℕ) (turn : Turn) (world : World) → (t : Turns uses owner world name turn) → IsUsing uses owner world → IsUsing t.later owner (turned name turn world)
@@ -190,9 +199,9 @@ linked_at world name state true_ at = (found_in world name world.clients state t
 pub told_using : (name : List ℕ) (command : Command) (world : World) → IsNoConnect command → IsTrueWorld world → HasUses world → HasUses (takes_turn name (acted command world.now) world)
 told_using name command world not true_ h =
     turned_by_using name (acted command world.now) (client_at name world) world h refl
-    (λ state at is. turns_made h.uses h.owner world name state (acted command world.now state) is (linked_at world name state true_ at) (calm_steps state _ (steps_acted command world.now state not)) (makes_acted h.uses h.fits.single command world.now state is.numbered))
+    (λ state at is. turns_made h.uses h.owner world name state (acted command world.now state) is (linked_at world name state true_ at) (calm_steps state _ (steps_acted command world.now state not)) (makes_acted h.uses name h.fits.single h.fits.givers command world.now state is.numbered) (subst (AllByRecursion (λ (a : Answer). IsBy h.uses (pair_of a).0 (pair_of a).1 name)) (sym (steps_acted command world.now state not).answers) is.listed))
 
 pub looks_using : (name : List ℕ) (world : World) → IsTrueWorld world → HasUses world → HasUses (takes_turn name (ticked world.now) world)
 looks_using name world true_ h =
     turned_by_using name (ticked world.now) (client_at name world) world h refl
-    (λ state at is. turns_made h.uses h.owner world name state (ticked world.now state) is (linked_at world name state true_ at) (calm_steps state _ (steps_ticked world.now state)) (makes_ticked h.uses h.fits.single world.now state is.numbered))
+    (λ state at is. turns_made h.uses h.owner world name state (ticked world.now state) is (linked_at world name state true_ at) (calm_steps state _ (steps_ticked world.now state)) (makes_ticked h.uses name h.fits.single h.fits.givers world.now state is.numbered) (subst (AllByRecursion (λ (a : Answer). IsBy h.uses (pair_of a).0 (pair_of a).1 name)) (sym (steps_ticked world.now state).answers) is.listed))

@@ -67,6 +67,7 @@ serve_resume uses owner world k t key found is none fits telling h =
     (λ c told_it is_client. record {
       own = is_client.own;
       numbered = is_client.numbered;
+      listed = is_client.listed;
       ready = λ on. changed_latest world (performs k (calls.Book (events.Resume key world.now)) world) k (absorbs (calls.Book (events.Resume key world.now)) world) refl
           (λ u. works_owner (absorbed (calls.Book (events.Resume key world.now)) (reply_to (calls.Book (events.Resume key world.now)) world) world.now) (with_call (calls.Book (events.Resume key world.now)) world u))
           (λ u uncut. sym (works_cut (absorbed (calls.Book (events.Resume key world.now)) (reply_to (calls.Book (events.Resume key world.now)) world) world.now) (with_call (calls.Book (events.Resume key world.now)) world u)) ∙ uncut)
@@ -143,6 +144,7 @@ serve_opens uses owner world k t event given_ key found is none same_answer open
     (λ c told_it is_client. record {
       own = λ id held. owned_apart (conn_text given_.conn) t.owner id c.0 owner (bytes_eq id (conn_text given_.conn)) refl (λ same. fresh world.book given_.conn id next small (h.owned id c.0 (is_client.own id held)) same) (is_client.own id held);
       numbered = is_client.numbered;
+      listed = is_client.listed;
       ready = λ on. changed_latest world (performs k (calls.Book event) world) k (absorbs (calls.Book event) world) refl
           (λ u. works_owner (absorbed (calls.Book event) (reply_to (calls.Book event) world) world.now) (with_call (calls.Book event) world u))
           (λ u uncut. sym (works_cut (absorbed (calls.Book event) (reply_to (calls.Book event) world) world.now) (with_call (calls.Book event) world u)) ∙ uncut)

@@ -50,6 +50,7 @@ begins_uses = record {
   owner = λ id. None;
   fits = record {
     single = λ id serial one two used wrong. absurd wrong;
+    givers = λ id serial one two used wrong. absurd wrong;
     given = λ id serial channel wrong. absurd wrong;
     owned = λ id name wrong. absurd (cc);
     fed = λ serial channel wrong. absurd wrong;

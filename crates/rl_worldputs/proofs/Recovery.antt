@@ -43,7 +43,7 @@ module _ (uses : List Use) (owner : List ℕ → Option (List ℕ)) where
   cut_dead : (name : List ℕ) (b : Bool) (k : ℕ) (t : Transport) (world : World) → IsUsing uses owner world → AllByRecursion (IsDead name) world.clients → AllByRecursion (IsDead name) (cut_unless b k t world).clients
   cut_dead name true k t world h dead = dead
   cut_dead name false k t world h dead =
-      named_all (IsDead name) t.owner (unlinks world.now) (λ c same is. dead_held name c.0 c.1 (unlinks world.now c.1) (calm_steps c.1 (unlinks world.now c.1) (steps_unlinked world.now c.1)) (moved_held uses h.single events.Down world.now c.1) is) world.clients dead
+      named_all (IsDead name) t.owner (unlinks world.now) (λ c same is. dead_held name c.0 c.1 (unlinks world.now c.1) (calm_steps c.1 (unlinks world.now c.1) (steps_unlinked world.now c.1)) (moved_held uses c.0 h.single h.givers events.Down world.now c.1) is) world.clients dead
 
   where_dead : (name : List ℕ) (k : ℕ) (o : Option Transport) (world : World) → IsUsing uses owner world → AllByRecursion (IsDead name) world.clients → AllByRecursion (IsDead name) (cut_where k o world).clients
   where_dead name k None world h dead = dead
@@ -99,7 +99,7 @@ module _ (uses : List Use) (owner : List ℕ → Option (List ℕ)) where
       let fits_one : IsUsing uses owner (on_client name (λ _. conn_moved events.Died world.now state) world) =
       client_using uses owner world name (λ _. conn_moved events.Died world.now state)
       (λ c same is. subst (λ (n : List ℕ). IsClientUsing uses owner world (n, conn_moved events.Died world.now state)) same
-      (held_client uses owner world name state (conn_moved events.Died world.now state) (calm_steps state (conn_moved events.Died world.now state) (steps_acted Die world.now state tt)) (moved_held uses h.single events.Died world.now state) good)) h in
+      (held_client uses owner world name state (conn_moved events.Died world.now state) (calm_steps state (conn_moved events.Died world.now state) (steps_acted Die world.now state tt)) (steps_acted Die world.now state tt).answers (moved_held uses name h.single h.givers events.Died world.now state) good)) h in
       let fits_two : IsUsing uses owner (sends name [] (on_client name (λ _. conn_moved events.Died world.now state) world)) =
       sent_using uses owner (latest name (on_client name (λ _. conn_moved events.Died world.now state) world)) [] (on_client name (λ _. conn_moved events.Died world.now state) world) (λ k t at found uncut. tt) fits_one in
       let dead_two = sent_dead name (latest name (on_client name (λ _. conn_moved events.Died world.now state) world)) [] (on_client name (λ _. conn_moved events.Died world.now state) world) (all_named name (conn_moved events.Died world.now state) (died_id world.now state, died_off world.now state) world.clients) in
@@ -143,6 +143,7 @@ module _ (uses : List Use) (owner : List ℕ → Option (List ℕ)) (world : Wor
   stays_client c dead h = record {
     own = λ x is. owned_other id name other x c.0 owner (bytes_eq x id) refl was (λ same. let wrong : None ≡ Some x = sym (dead same).0 ∙ is in cc) (h.own x is);
     numbered = h.numbered;
+    listed = h.listed;
     ready = λ is k t at found uncut g same. elim (h.ready is k t at found uncut g same) [
       | inl mine ↦ inl mine
       | inr new ↦ inr (record {
@@ -161,9 +162,10 @@ module _ (uses : List Use) (owner : List ℕ → Option (List ℕ)) (world : Wor
         own = λ x is. let one : before_mark key.key ≡ x = cc in
             subst (λ (y : List ℕ). owned_by id name owner y ≡ Some c.0) (sym text ∙ one) (owned_self id name owner ∙ ap (λ (n : List ℕ). Some n) same);
         numbered = λ x is. let one : before_mark key.key ≡ x = cc in record { below = subst (λ (y : List ℕ). AreBelow uses y key.next) (sym text ∙ one) below; waiting = tt };
+        listed = h.listed;
         ready = λ now. let two : conn.Initialized ≡ conn.Connecting = sym first ∙ now in absurd (cc);
       }
-  goes_on key c false may text same below dead h = let s = stays_client c dead h in record { own = s.own; numbered = s.numbered; ready = s.ready }
+  goes_on key c false may text same below dead h = let s = stays_client c dead h in record { own = s.own; numbered = s.numbered; listed = s.listed; ready = s.ready }
 
   all_go_on : (key : RecoveryKey) → before_mark key.key ≡ id → AreBelow uses id key.next → (cs : List (List ℕ × ClientState)) → AllByRecursion (IsDead other) cs → AllByRecursion (IsClientUsing uses owner world) cs
       → AllByRecursion (IsClientUsing uses (owned_by id name owner) world) (map (if_named name (recovered key)) cs)
@@ -177,6 +179,7 @@ module _ (uses : List Use) (owner : List ℕ → Option (List ℕ)) (world : Wor
   recovered_using : (key : RecoveryKey) → before_mark key.key ≡ id → AreBelow uses id key.next → AllByRecursion (IsDead other) world.clients → IsUsing uses owner world → IsUsing uses (owned_by id name owner) (on_client name (recovered key) world)
   recovered_using key text below dead h = record {
     single = h.single;
+    givers = h.givers;
     given = h.given;
     owned = λ x n has. owned_given (IsGivenId world.book) id name x n owner (bytes_eq x id) refl (h.owned id other was) (λ m is. h.owned x m is) has;
     fed = h.fed;
@@ -185,7 +188,7 @@ module _ (uses : List Use) (owner : List ℕ → Option (List ℕ)) (world : Wor
     apart = h.apart;
     puts = h.puts;
     links = h.links;
-    each = all_weaker _ _ (λ c is. record { own = is.own; numbered = is.numbered; ready = is.ready }) (map (if_named name (recovered key)) world.clients) (all_go_on key text below world.clients dead h.each);
+    each = all_weaker _ _ (λ c is. record { own = is.own; numbered = is.numbered; listed = is.listed; ready = is.ready }) (map (if_named name (recovered key)) world.clients) (all_go_on key text below world.clients dead h.each);
   }
 
 -- RECOVERY

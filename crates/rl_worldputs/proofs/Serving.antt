@@ -85,6 +85,7 @@ pub serve_using : (uses : List Use) (owner owner_after : List ℕ → Option (Li
     → IsTelling world → IsUsing uses owner world → IsUsing uses owner_after (on_transport k f mid)
 serve_using uses owner owner_after world mid k f l step owned nobody each telling h = record {
   single = h.single;
+  givers = h.givers;
   given = λ id serial channel used. given_grows world.book mid.book id l.given (h.given id serial channel used);
   owned = owned;
   fed = λ serial channel used. let small : serial < world.fed = h.fed serial channel used in omega (arith, small, l.fed);
@@ -109,6 +110,7 @@ pub steady_each : (uses : List Use) (owner : List ℕ → Option (List ℕ)) (wo
 steady_each uses owner world mid k f l owners cuts same c h = record {
   own = h.own;
   numbered = h.numbered;
+  listed = h.listed;
   ready = λ on. changed_latest world (on_transport k f mid) k f (ap (changed_at k f) l.links) owners cuts _ _ (λ t may. may) (λ t found may. subst (MayServe uses owner c.0 c.1.id) (sym (same t found)) may) c.0 (h.ready on);
 }
 

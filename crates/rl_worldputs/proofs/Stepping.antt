@@ -253,6 +253,7 @@ leaves_using world after h l = record {
   owner = h.owner;
   fits = record {
     single = h.fits.single;
+    givers = h.fits.givers;
     given = λ id serial channel used. given_grows world.book after.book id l.given (h.fits.given id serial channel used);
     owned = λ id name has. given_grows world.book after.book id l.given (h.fits.owned id name has);
     fed = λ serial channel used. let small : serial < world.fed = h.fits.fed serial channel used in omega (arith, small, l.fed);
@@ -263,6 +264,7 @@ leaves_using world after h l = record {
     each = subst (AllByRecursion (IsClientUsing h.uses h.owner after)) (sym l.clients) (all_weaker _ _ (λ c is. record {
       own = is.own;
       numbered = is.numbered;
+      listed = is.listed;
       ready = λ on k t at found uncut. is.ready on k t (sym (ap (λ (ts : List Transport). last_of (owned c.0 0 ts)) l.links) ∙ at) (subst (λ (ts : List Transport). slice_get ts k ≡ Some t) l.links found) uncut;
     }) world.clients h.fits.each);
   };
@@ -298,12 +300,13 @@ record IsFedOn (world : World) (name : List ℕ) : Type 0 where
 
 feed_uses : (world : World) (name : List ℕ) → HasUses world → IsFedOn world name
 feed_uses world name h =
-    let p = push_one h.uses (conn_text feed_conn) (record { pending = []; next = world.fed }) (frames.Message (head_on name) []) h.fits.single (record { below = h.fits.fed; waiting = tt }) in
+    let p = push_one h.uses [] (conn_text feed_conn) (record { pending = []; next = world.fed }) (frames.Message (head_on name) []) h.fits.single h.fits.givers (record { below = h.fits.fed; waiting = tt }) in
     record {
       uses = p.later;
       owner = h.owner;
       fits = record {
         single = p.single;
+        givers = p.givers;
         given = λ id serial channel used. elim (p.grown.only id serial channel used) [ inl mine ↦ (let same : conn_text feed_conn ≡ id = cc in (feed_conn, same, omega arith)) | inr old ↦ h.fits.given id serial channel old ];
         owned = h.fits.owned;
         fed = p.numbered.below;

@@ -10,6 +10,7 @@ use Rattle.rl_types.specs.declared.frames.Frame.TheVariants as frames
 use Rattle.rl_types.specs.declared.frames.Head.{Head}
 use Rattle.rl_events.specs.declared.channel.ChannelEvent.{ChannelEvent}
 use Rattle.rl_events.specs.declared.channel.ChannelEvent.TheVariants.{Put}
+use Rattle.rl_runs.specs.declared.findings.Answer.{Answer}
 use Rattle.rl_ackq.specs.declared.pending.Pending.{Pending}
 use Rattle.rl_ackq.specs.Queue.{Queue}
 use Rattle.rl_connbook.specs.Records.{Answered}
@@ -24,7 +25,7 @@ use Rattle.rl_actormodel.specs.State as actor
 use Rattle.rl_worldmodel.specs.World.{World, Transport, the_range, latest}
 use Rattle.rl_worldmodel.specs.Services.{feed_conn}
 use Rattle.rl_worldtold.specs.Truth.{names_of, OnHolder}
-use Rattle.rl_worldtold.specs.Listed.{AreDistinct}
+use Rattle.rl_worldtold.specs.Listed.{pair_of, AreDistinct}
 
 -- USES
 
@@ -33,12 +34,21 @@ pub record Use : Type 0 where
   pub id : List ℕ
   pub serial : ℕ
   pub channel : List ℕ
+  pub giver : List ℕ  -- the client's name
 
 abbrev pub IsThis : List ℕ → ℕ → List ℕ → Use → Type 0
 IsThis id serial channel one = (one.id ≡ id) × (one.serial ≡ serial) × (one.channel ≡ channel)
 
 abbrev pub IsUse : List Use → List ℕ → ℕ → List ℕ → Type 0
 IsUse uses id serial channel = SomeOf (IsThis id serial channel) uses
+
+-- the client of this name gave it
+abbrev pub IsBy : List Use → List ℕ → ℕ → List ℕ → Type 0
+IsBy uses id serial giver = SomeOf (λ (one : Use). (one.id ≡ id) × (one.serial ≡ serial) × (one.giver ≡ giver)) uses
+
+-- each serial of a connection was given by one client
+abbrev pub AreGivenByOne : List Use → Type 0
+AreGivenByOne uses = (id : List ℕ) (serial : ℕ) (one two : List ℕ) → IsBy uses id serial one → IsBy uses id serial two → one ≡ two
 
 -- each serial of a connection was given to frames of one channel
 abbrev pub AreSingle : List Use → Type 0
@@ -85,10 +95,10 @@ IsSent uses holder frame = OnFrame (IsUseBy uses holder) frame
 
 -- CLIENTS
 
--- the frames that wait have serials that were given to them, and each that was given is below the next one
-pub record IsNumbered (uses : List Use) (id : List ℕ) (queue : Queue) : Type 0 where
+-- the frames that wait have serials that this client gave to them, and each that was given is below the next one
+pub record IsNumbered (uses : List Use) (id : List ℕ) (name : List ℕ) (queue : Queue) : Type 0 where
   pub below : AreBelow uses id queue.next
-  pub waiting : AllByRecursion (λ (one : Pending). IsUseOf uses id one.frame) queue.pending
+  pub waiting : AllByRecursion (λ (one : Pending). IsUseOf uses id one.frame × IsBy uses id one.serial name) queue.pending
 
 -- a connection that was opened for this client, which has another one yet and has given no serial of it
 pub record IsNew (uses : List Use) (owner : List ℕ → Option (List ℕ)) (name : List ℕ) (held : Option (List ℕ)) (id : List ℕ) : Type 0 where
@@ -107,7 +117,8 @@ OnLatest world name P = (k : ℕ) (t : Transport) → latest name world ≡ Some
 
 pub record IsClientUsing (uses : List Use) (owner : List ℕ → Option (List ℕ)) (world : World) (c : List ℕ × ClientState) : Type 0 where
   pub own : (id : List ℕ) → c.1.id ≡ Some id → owner id ≡ Some c.0
-  pub numbered : (id : List ℕ) → c.1.id ≡ Some id → IsNumbered uses id c.1.queue
+  pub numbered : (id : List ℕ) → c.1.id ≡ Some id → IsNumbered uses id c.0 c.1.queue
+  pub listed : AllByRecursion (λ (a : Answer). IsBy uses (pair_of a).0 (pair_of a).1 c.0) c.1.answers
   pub ready : c.1.conn ≡ conn.Connecting → OnLatest world c.0 (λ t. MayServe uses owner c.0 c.1.id t.actor.holder)
 
 -- WHAT AN ACTOR HAS IN HAND
@@ -148,6 +159,7 @@ IsChannelUsing uses c = AllByRecursion (IsPutUsing uses c.0) c.1
 -- with these uses, and this client's name for each connection
 pub record IsUsing (uses : List Use) (owner : List ℕ → Option (List ℕ)) (world : World) : Type 0 where
   pub single : AreSingle uses
+  pub givers : AreGivenByOne uses
   pub given : (id : List ℕ) (serial : ℕ) (channel : List ℕ) → IsUse uses id serial channel → IsGivenId world.book id
   pub owned : (id name : List ℕ) → owner id ≡ Some name → IsGivenId world.book id
   -- those of the connection of entries that no client puts, which no client holds
