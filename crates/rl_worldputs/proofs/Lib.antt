@@ -17,3 +17,4 @@ pub mod Wishing
 pub mod Elsewhere
 pub mod Listing
 pub mod NoEntries
+pub mod Listings
