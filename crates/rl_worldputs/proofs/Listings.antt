@@ -1,5 +1,5 @@
 -- A connection and serial is listed by the client that gave it.
-use Rattle.std.proofs.Common.{◌≡◌, ℕ, List, refl, subst}
+use Rattle.std.proofs.Common.{◌≡◌, ℕ, List, subst}
 use Rattle.std.specs.Prelude.{Some}
 use Rattle.rl_runs.specs.declared.findings.Answer.{Answer}
 use Rattle.rl_connbook.proofs.Each.{all_some}
