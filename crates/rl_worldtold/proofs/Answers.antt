@@ -162,7 +162,7 @@ settled_by_one : (serial count : ℕ) (P : ℕ → Type 0) (p : Pending) (rest :
 settled_by_one serial count P p rest true covered one is more = (subst P (covered_is serial count p.serial one covered) is, more)
 settled_by_one serial count P p rest false covered one is more = more
 
-settled_one : (serial count : ℕ) (P : ℕ → Type 0) → count ≡ 1 → P serial → (ps : List Pending) → AllByRecursion P (serials (filter (is_covered serial count) ps))
+pub settled_one : (serial count : ℕ) (P : ℕ → Type 0) → count ≡ 1 → P serial → (ps : List Pending) → AllByRecursion P (serials (filter (is_covered serial count) ps))
 settled_one serial count P one is [] = tt
 settled_one serial count P one is (p ∷ ps) = settled_by_one serial count P p (filter (is_covered serial count) ps) (is_covered serial count p) refl one is (settled_one serial count P one is ps)
 

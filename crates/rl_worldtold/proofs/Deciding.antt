@@ -23,7 +23,7 @@ use Rattle.rl_worldtold.proofs.Runs.{runs_so}
 use Rattle.rl_worldtold.proofs.Orderly.{gone_serial, puts_come_before_gone}
 
 -- what a channel decided, and what it made of one event more
-abbrev made : List ChannelEvent → List Decision
+abbrev pub made : List ChannelEvent → List Decision
 made past = decisions the_site past
 
 abbrev now_made : ChannelEvent → List ChannelEvent → Decision
@@ -154,7 +154,7 @@ one_outcome (event ∷ past) puts conn serial o1 o2 (inr a) (inr b) = one_outcom
 
 -- ENTRIES
 
-abbrev IsEntryOf : ℕ → ℕ → Entry → Type 0
+abbrev pub IsEntryOf : ℕ → ℕ → Entry → Type 0
 IsEntryOf conn serial e = (e.conn ≡ conn) × (e.serial ≡ Some serial)
 
 -- an entry with a serial is that of a Put that was taken
@@ -182,7 +182,7 @@ entry_event (Gone c now) past conn serial some =
     absurd (cc)
 entry_event event past conn serial some = absurd some
 
-entry_decided : (past : List ChannelEvent) (conn serial : ℕ) → SomeOf (IsEntryOf conn serial) (log the_site past) → (place : ℕ) × SomeOf (IsDecidedAs conn serial (Taken place)) (made past)
+pub entry_decided : (past : List ChannelEvent) (conn serial : ℕ) → SomeOf (IsEntryOf conn serial) (log the_site past) → (place : ℕ) × SomeOf (IsDecidedAs conn serial (Taken place)) (made past)
 entry_decided [] conn serial some = absurd some
 entry_decided (event ∷ past) conn serial some =
     elim (some_split (IsEntryOf conn serial) (log the_site past) (option_to_list (now_made event past).entry) some) [

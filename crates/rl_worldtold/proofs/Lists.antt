@@ -79,7 +79,7 @@ told_settle world name true serial count answer s on held given answering h = re
 }
 told_settle world name false serial count answer s on held given answering h = h
 
-takes_on : (c : ConnState) → takes_acknowledgements c ≡ true → IsOn c
+pub takes_on : (c : ConnState) → takes_acknowledgements c ≡ true → IsOn c
 takes_on conn.Connected is = tt
 takes_on conn.Closing is = tt
 takes_on c is = absurd (cc)
@@ -94,7 +94,7 @@ given_of b s (Some h) below on a is = (h.conn, sym (is ∙ ap id_of on), below h
 
 -- CONNECTED
 
-awaits_is : (c : ConnState) → awaits_connected c ≡ true → c ≡ conn.Connecting
+pub awaits_is : (c : ConnState) → awaits_connected c ≡ true → c ≡ conn.Connecting
 awaits_is conn.Connecting is = refl
 awaits_is c is = absurd (cc)
 

@@ -34,10 +34,10 @@ pub record Steps (before after : ClientState) : Type 0 where
   pub keys : ((after.key ≡ before.key) × (after.id ≡ before.id)) ⊎ (after.key ≡ None)
 
 -- only Connect leads to CONNECTING
-to_connecting : (c : ConnState) (b : Bool) (event : ConnEvent) → (event ≡ events.Connect → ⊥) → conn_table c b event ≡ conn.Connecting → c ≡ conn.Connecting
+pub to_connecting : (c : ConnState) (b : Bool) (event : ConnEvent) → (event ≡ events.Connect → ⊥) → conn_table c b event ≡ conn.Connecting → c ≡ conn.Connecting
 to_connecting c b event not is = grind (arith, not, is)
 
-forgets_no_connecting : (c : ConnState) → forgets_connection c ≡ true → c ≡ conn.Connecting → ⊥
+pub forgets_no_connecting : (c : ConnState) → forgets_connection c ≡ true → c ≡ conn.Connecting → ⊥
 forgets_no_connecting c forgets is = let wrong : false ≡ true = sym (ap forgets_connection is) ∙ forgets in cc
 
 forgot_steps : (b : Bool) (before s : ClientState) → forgets_connection s.conn ≡ b → (s.conn ≡ conn.Connecting → before.conn ≡ conn.Connecting) → (s.conn ≡ conn.Initialized → before.conn ≡ conn.Initialized) → s.id ≡ before.id → s.key ≡ before.key → s.answers ≡ before.answers → Steps before (forgotten b s)
@@ -64,7 +64,7 @@ forgot_rests false before s initial id key answers = record { answers = answers;
 pub rests_moved : (event : ConnEvent) (now : ℕ) (state : ClientState) → Rests state (conn_moved event now state)
 rests_moved event now state = forgot_rests (forgets_connection (state_after event state)) state _ (never_initialized_again state.conn state.from_suspended event) refl refl refl
 
-forgot_conn : (b : Bool) (s : ClientState) → (forgotten b s).conn ≡ s.conn
+pub forgot_conn : (b : Bool) (s : ClientState) → (forgotten b s).conn ≡ s.conn
 forgot_conn true s = refl
 forgot_conn false s = refl
 

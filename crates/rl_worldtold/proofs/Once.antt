@@ -140,11 +140,11 @@ once_up_by false id held queue answers h same other (inr unheard) = record {
   old = all_weaker _ _ (λ a never mine. absurd (never (let same : id ≡ (pair_of a).0 = cc in sym same))) answers unheard;
 }
 
-id_held : (id : List ℕ) (o : Option (List ℕ)) → is_id id o ≡ true → o ≡ Some id
+pub id_held : (id : List ℕ) (o : Option (List ℕ)) → is_id id o ≡ true → o ≡ Some id
 id_held id None is = absurd (cc)
 id_held id (Some held) is = ap (λ (x : List ℕ). Some x) (sym (same_bytes id held is))
 
-id_other : (id : List ℕ) (o : Option (List ℕ)) → is_id id o ≡ false → o ≡ Some id → ⊥
+pub id_other : (id : List ℕ) (o : Option (List ℕ)) → is_id id o ≡ false → o ≡ Some id → ⊥
 id_other id o is same =
     let yes_it : is_id id o ≡ true = ap (is_id id) same ∙ self_bytes id in
     true≢false (sym yes_it ∙ is)

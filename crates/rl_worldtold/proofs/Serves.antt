@@ -103,18 +103,18 @@ emptied_tells b later s after h = record { below = h.below; tells = λ state own
 works_tells : (b later : List Answered) (act : actor.State → actor.State) (t : Transport) (s : actor.State) → Tells b later s (act t.actor) → Tells b later s (works act t).actor
 works_tells b later act t s h = subst (Tells b later s) (sym (works_actor act t)) (emptied_tells b later s (act t.actor) h)
 
-works_uncut : (act : actor.State → actor.State) (t : Transport) → (works act t).cut ≡ false → t.cut ≡ false
+pub works_uncut : (act : actor.State → actor.State) (t : Transport) → (works act t).cut ≡ false → t.cut ≡ false
 works_uncut act t uncut = sym (works_cut act t) ∙ uncut
 
 -- CALLS
 
-called_given : (call : Call) (world : World) → last_number the_range world.book ≤ last_number the_range (called call world).book
+pub called_given : (call : Call) (world : World) → last_number the_range world.book ≤ last_number the_range (called call world).book
 called_given (calls.Book event) world = last_grows the_range (answered the_range event world.book) world.book
 called_given (calls.Dir (Ask name)) world = let same = ap (last_number the_range) (name_beside name world).book in omega (arith, same)
 called_given (calls.Dir Names) world = omega arith
 called_given (calls.Chan number event) world = omega arith
 
-called_transports : (call : Call) (world : World) → (called call world).transports ≡ world.transports
+pub called_transports : (call : Call) (world : World) → (called call world).transports ≡ world.transports
 called_transports (calls.Book event) world = refl
 called_transports (calls.Dir (Ask name)) world = (name_beside name world).transports
 called_transports (calls.Dir Names) world = refl
@@ -162,7 +162,7 @@ resume_tells b later key now s (Back holder) is below fits = record {
 }
 
 -- nothing was listed of a connection that is opened
-unheard : (b : List Answered) (c : ℕ) (answers : List Answer) → c ≡ last_number the_range b + 1 → c < 2 ^ 32 → AllByRecursion (IsGiven b) answers → IsUnheard (conn_text c) answers
+pub unheard : (b : List Answered) (c : ℕ) (answers : List Answer) → c ≡ last_number the_range b + 1 → c < 2 ^ 32 → AllByRecursion (IsGiven b) answers → IsUnheard (conn_text c) answers
 unheard b c answers next small given =
     all_weaker _ _ (λ a g same. let one : g.0 ≡ c = conn_texts_differ g.0 c (omega (arith, g.2, next, small)) small (g.1 ∙ same) in omega (arith, one, g.2, next)) answers given
 

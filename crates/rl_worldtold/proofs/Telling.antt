@@ -24,7 +24,7 @@ use Rattle.rl_clientmodel.specs.Commands.{Refusal, refusal, acted, obeyed, obeye
 use Rattle.rl_clientmodel.specs.Hearing.{heard}
 use Rattle.rl_clientmodel.specs.Times.{ticked}
 use Rattle.rl_clientmodel.specs.Keys.{recovery_key, may_recover, is_empty, recovered, with_key, before_mark}
-use Rattle.rl_worldmodel.specs.World.{World, Transport, the_range, new_transport, on_transport, on_client, client_in, client_at, if_named, latest, last_of, owned, names}
+use Rattle.rl_worldmodel.specs.World.{World, Transport, the_range, empty_world, new_transport, on_transport, on_client, client_in, client_at, if_named, latest, last_of, owned, names}
 use Rattle.rl_worldmodel.specs.Clients.{declared_unless, cut_off, unlinks, cut_unless, cut_where, cut_at, cuts, put_unless, takes_frames, sent_on, sends, cuts_if, turned, turned_by, takes_turn, opened_as, opened_unless, opened_by, opens, obeys, recovered_with, recovered_if, recovered_from, Arrival, Comes, Ends, Nothing, arrival, gives_frame, got_by, got_on}
 use Rattle.rl_worldmodel.specs.Services.{reaped, event_at, fed_at}
 use Rattle.rl_worldmodel.specs.Actions.{Action, Declares, Opens, Cuts, Recovers, Obeys, Gets, LooksAtTime, Steps, Pages, Polls, Passes, Expires, Reaps, Ages, Asks, Feeds, does}
@@ -49,7 +49,7 @@ named_by : (P : List ℕ × ClientState → Type 0) (name : List ℕ) (f : Clien
 named_by P name f c true is step h = step (same_bytes name c.0 is) h
 named_by P name f c false is step h = h
 
-named_all : (P : List ℕ × ClientState → Type 0) (name : List ℕ) (f : ClientState → ClientState) → ((c : List ℕ × ClientState) → name ≡ c.0 → P c → P (c.0, f c.1)) → (cs : List (List ℕ × ClientState)) → AllByRecursion P cs → AllByRecursion P (map (if_named name f) cs)
+pub named_all : (P : List ℕ × ClientState → Type 0) (name : List ℕ) (f : ClientState → ClientState) → ((c : List ℕ × ClientState) → name ≡ c.0 → P c → P (c.0, f c.1)) → (cs : List (List ℕ × ClientState)) → AllByRecursion P cs → AllByRecursion P (map (if_named name f) cs)
 named_all P name f step [] each = tt
 named_all P name f step (c ∷ cs) each = (named_by P name f c (bytes_eq name c.0) refl (step c) each.0, named_all P name f step cs each.1)
 
@@ -57,7 +57,7 @@ in_by : (P : List ℕ × ClientState → Type 0) (name : List ℕ) (c : List ℕ
 in_by P name c rest s true is here more found = let it : c.1 ≡ s = cc in subst (λ (x : ClientState). P (name, x)) it (subst (λ (n : List ℕ). P (n, c.1)) (sym (same_bytes name c.0 is)) here)
 in_by P name c rest s false is here more found = more found
 
-in_all : (P : List ℕ × ClientState → Type 0) (name : List ℕ) (cs : List (List ℕ × ClientState)) (s : ClientState) → AllByRecursion P cs → client_in name cs ≡ Some s → P (name, s)
+pub in_all : (P : List ℕ × ClientState → Type 0) (name : List ℕ) (cs : List (List ℕ × ClientState)) (s : ClientState) → AllByRecursion P cs → client_in name cs ≡ Some s → P (name, s)
 in_all P name [] s each found = absurd (cc)
 in_all P name (c ∷ cs) s each found = in_by P name c (client_in name cs) s (bytes_eq name c.0) refl each.0 (in_all P name cs s each.1) found
 
@@ -92,15 +92,15 @@ at_tells (Some k) world h = where_tells k (slice_get world.transports k) world h
 cuts_tells : (name : List ℕ) (world : World) → IsTelling world → IsTelling (cuts name world)
 cuts_tells name world h = at_tells (latest name world) world h
 
-sent_owner : (list : List Frame) (cut : Bool) (t : Transport) → (put_unless cut list t).owner ≡ t.owner
+pub sent_owner : (list : List Frame) (cut : Bool) (t : Transport) → (put_unless cut list t).owner ≡ t.owner
 sent_owner list true t = refl
 sent_owner list false t = refl
 
-sent_cut : (list : List Frame) (cut : Bool) (t : Transport) → (put_unless cut list t).cut ≡ t.cut
+pub sent_cut : (list : List Frame) (cut : Bool) (t : Transport) → (put_unless cut list t).cut ≡ t.cut
 sent_cut list true t = refl
 sent_cut list false t = refl
 
-sent_actor : (list : List Frame) (cut : Bool) (t : Transport) → (put_unless cut list t).actor ≡ t.actor
+pub sent_actor : (list : List Frame) (cut : Bool) (t : Transport) → (put_unless cut list t).actor ≡ t.actor
 sent_actor list true t = refl
 sent_actor list false t = refl
 
@@ -162,25 +162,25 @@ owned_by : (b : Bool) (n m k : ℕ) (xs ys : List ℕ) → xs ≡ ys ++ m ∷ []
 owned_by true n m k xs ys same is = ap (λ (zs : List ℕ). n ∷ zs) (same ∙ ap (λ j. ys ++ j ∷ []) is)
 owned_by false n m k xs ys same is = same ∙ ap (λ j. ys ++ j ∷ []) is
 
-owned_new : (name : List ℕ) (n : ℕ) (ts : List Transport) (t : Transport) → bytes_eq name t.owner ≡ true → owned name n (ts ++ t ∷ []) ≡ owned name n ts ++ (n + length ts) ∷ []
+pub owned_new : (name : List ℕ) (n : ℕ) (ts : List Transport) (t : Transport) → bytes_eq name t.owner ≡ true → owned name n (ts ++ t ∷ []) ≡ owned name n ts ++ (n + length ts) ∷ []
 owned_new name n [] t own = ap (λ (b : Bool). if b then n ∷ [] else []) own ∙ ap (λ m. m ∷ []) (omega arith)
 owned_new name n (u ∷ ts) t own = owned_by (bytes_eq name u.owner) n (suc n + length ts) (n + suc (length ts)) (owned name (suc n) (ts ++ t ∷ [])) (owned name (suc n) ts) (owned_new name (suc n) ts t own) (omega arith)
 
-last_append : (xs : List ℕ) (x : ℕ) → last_of (xs ++ x ∷ []) ≡ Some x
+pub last_append : (xs : List ℕ) (x : ℕ) → last_of (xs ++ x ∷ []) ≡ Some x
 last_append [] x = refl
 last_append (y ∷ []) x = refl
 last_append (y ∷ z ∷ zs) x = last_append (z ∷ zs) x
 
-get_last : (ts : List Transport) (t : Transport) → slice_get (ts ++ t ∷ []) (length ts) ≡ Some t
+pub get_last : (ts : List Transport) (t : Transport) → slice_get (ts ++ t ∷ []) (length ts) ≡ Some t
 get_last [] t = refl
 get_last (u ∷ ts) t = get_last ts t
 
-first_asks : (o : Option (List ℕ)) → asks (actor.first_wish o) ≡ o
+pub first_asks : (o : Option (List ℕ)) → asks (actor.first_wish o) ≡ o
 first_asks None = refl
 first_asks (Some key) = refl
 
 -- the world with a client's new transport
-abbrev with_new : List ℕ → ClientState → World → World
+abbrev pub with_new : List ℕ → ClientState → World → World
 with_new name after world = record world { transports = world.transports ++ new_transport name (hello_of after 0) world.now ∷ [] }
 
 new_tell : (name : List ℕ) (after : ClientState) (now : ℕ) → MayTell after (new_transport name (hello_of after 0) now).actor
@@ -251,11 +251,11 @@ obeys_tells name command world h = told_tells name command world tt h
 
 -- RECOVERY
 
-first_is : (c : ConnState) → rules.may_recover c ≡ true → c ≡ conn.Initialized
+pub first_is : (c : ConnState) → rules.may_recover c ≡ true → c ≡ conn.Initialized
 first_is conn.Initialized is = refl
 first_is c is = absurd (cc)
 
-and_first : (a b c d : Bool) → (a && b && c && d) ≡ true → a ≡ true
+pub and_first : (a b c d : Bool) → (a && b && c && d) ≡ true → a ≡ true
 and_first true b c d is = refl
 and_first false b c d is = absurd (cc)
 
@@ -325,7 +325,7 @@ fed_tells world (Some number) body h = serves_tell world _ (serve_same world (fe
 
 -- ALL ACTIONS
 
-keeps_tells : (action : Action) (world : World) → IsTrueWorld world → IsTelling world → IsTelling (does action world)
+pub keeps_tells : (action : Action) (world : World) → IsTrueWorld world → IsTelling world → IsTelling (does action world)
 keeps_tells (Declares name) world true_ h = declared_tells (client_at name world) name world h
 keeps_tells (Opens name) world true_ h = opens_tells name world h
 keeps_tells (Cuts name) world true_ h = cuts_tells name world h
@@ -350,8 +350,11 @@ keeps_tells (Feeds name body) world true_ h = fed_tells world (number_of name (n
 abbrev Both : World → Type 0
 Both world = IsTrueWorld world × IsTelling world
 
+pub begins_tells : IsTelling empty_world
+begins_tells = record { holders = tt; clients = tt }
+
 always_both : HoldsOfRuns Both
-always_both = runs_hold Both (λ action world h. (keeps_true action world h.0, keeps_tells action world h.0 h.1)) (begins_true, record { holders = tt; clients = tt })
+always_both = runs_hold Both (λ action world h. (keeps_true action world h.0, keeps_tells action world h.0 h.1)) (begins_true, begins_tells)
 
 pub none_is_listed_twice : NoneIsListedTwice
 none_is_listed_twice = runs_so Both AllListOnce (λ world h. all_weaker _ _ (λ c is. is.own.once.distinct) world.clients h.1.clients) always_both
