@@ -37,7 +37,7 @@ later false None n is = absurd (cc)
 later false (Some m) n is = let same : suc m ≡ suc n = cc in let one : m ≡ n = omega (arith, same) in ap (λ (k : ℕ). Some k) one
 
 -- the channel of a number that the directory gave takes the event
-takes_own : (name : List ℕ) (n : ℕ) (event : ChannelEvent) (channels : Channels) → number_of name (names_of channels) ≡ Some n
+pub takes_own : (name : List ℕ) (n : ℕ) (event : ChannelEvent) (channels : Channels) → number_of name (names_of channels) ≡ Some n
     → history_in n (changed_at n (event_onto event) channels) ≡ event ∷ history_in n channels
 takes_own name n event [] is = absurd (cc)
 takes_own name zero event (c ∷ channels) is = refl

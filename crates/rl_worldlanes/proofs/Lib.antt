@@ -40,3 +40,5 @@ pub mod Declaring
 pub mod Enduring
 pub mod Walking
 pub mod Recording
+pub mod Apart
+pub mod Made

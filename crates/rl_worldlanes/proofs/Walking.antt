@@ -73,7 +73,7 @@ performs_follow world k call step h =
 
 -- STEPS
 
-called_is : (o : Option Call) (ended cut : Bool) (frame : Option Frame) (rests : Bool) (call : Call) → deed_by o ended cut frame rests ≡ Calls call → o ≡ Some call
+pub called_is : (o : Option Call) (ended cut : Bool) (frame : Option Frame) (rests : Bool) (call : Call) → deed_by o ended cut frame rests ≡ Calls call → o ≡ Some call
 called_is (Some one) ended cut frame rests call is = let same : one ≡ call = cc in ap (λ (c : Call). Some c) same
 called_is None true cut frame rests call is = absurd (cc)
 called_is None false true frame rests call is = absurd (cc)

@@ -4,4 +4,5 @@ pub mod Serving
 pub mod Records
 pub mod Turning
 pub mod Growing
+pub mod Made
 pub mod Laws

@@ -1,5 +1,6 @@
 //! Laws over the definitions alone. Each is a function that does nothing: its contract is the law.
 ghost use Rattle.rl_worldlanes.specs.Laws.{ClientsFollowLanes, IdsStandOnce, OpensAgainOnlyAfterLeaving, RecordsAreSound};
+ghost use Rattle.rl_worldlanes.specs.Made.{CallsAreEvents};
 
 /// The simulation. Whatever was done in a world of many clients, and so after every script: each client follows a lane on each
 /// channel, whether it knows the channel or not. The lane's history is the channel's, its channel is the client's, each Join
@@ -34,4 +35,13 @@ pub fn opens_again_only_after_leaving()
 #[tactic(auto, using(crate::proofs::Recording::ids_stand_once))]
 pub fn ids_stand_once()
     ensures { IdsStandOnce }
+{}
+
+/// Whatever was done in a world of many clients, and so after every script: what the world keeps of the calls that actors made
+/// is true. A call on a channel that a transport's actor made is that event of the channel's history, and stands there behind
+/// just as many events as were kept with it; and no two such calls, of one transport or of two, are one event of one channel.
+/// So the event of a Join, and what it was answered, are one actor's. (This project's own.)
+#[tactic(auto, using(crate::proofs::Made::calls_are_events))]
+pub fn calls_are_events()
+    ensures { CallsAreEvents }
 {}
