@@ -1,11 +1,10 @@
 -- What the service does moves each lane whose link is seen on a transport. These are the shapes of lemmas: no law cites them.
 use Rattle.std.specs.Prelude.{◌≡◌, ◌⊎◌, ℕ, false, List, [], ◌∷◌, ◌++◌, Some, slice_get}
 use Rattle.std.specs.List.{AllByRecursion}
-use Rattle.rl_connbook.specs.Laws.{SomeOf}
 use Rattle.rl_events.specs.declared.channel.ChannelEvent.{ChannelEvent}
 use Rattle.rl_lanes.specs.Lanes.{Setup, Link, Lane}
 use Rattle.rl_lanes.specs.Moves.{Move, lane_after}
-use Rattle.rl_worldmodel.specs.World.{World, Transport, CallMade}
+use Rattle.rl_worldmodel.specs.World.{World, Transport}
 use Rattle.rl_worldlanes.specs.Views.{Sees}
 use Rattle.rl_worldlanes.specs.Following.{setup_of, past_named, IsMadeBy}
 
