@@ -13,7 +13,7 @@ use Rattle.rl_lanes.specs.Lanes.{Setup, Ask, ToAttach, ToDetach, Coming, Tells, 
 use Rattle.rl_lanes.specs.Moves as moves
 use Rattle.rl_lanes.specs.Moves.{Move, with_own_members, got, begun_by, asked_by, steps_known, starts_at, recovers, gets_known, gets_first, gets, joins_first, refuses_first, parts_first, reads, turns, on_link, lane_after, lane_of}
 use Rattle.rl_lanes.specs.Sound.{AreSound}
-use Rattle.rl_lanes.specs.Follows.{Took, part_of, HoldsOnLink, Holds, IsFollowing}
+use Rattle.rl_lanes.specs.Follows.{Took, part_of, HoldsOnLink, Holds, LaneHolds, LanesHold}
 use Rattle.rl_lanes.proofs.Holds.{grows}
 use Rattle.rl_lanes.proofs.Sends.{WithAsks, Stepped, asks_none, attaches, detaches, comes_up, suspends, closes, breaks, waits, collects, without_link, unlinks, opens}
 use Rattle.rl_lanes.proofs.Serves.{joins_one, answers_short, reads_follow, pages_follow}
@@ -35,7 +35,7 @@ IsKept setup step =
     → Holds setup past (part_of channel) joins begun link → Stepped setup past step channel joins begun link
 
 step_follows : (setup : Setup) (step : ChannelStep) (lane : Lane) (channel : Option ClientChannel) → IsKept setup step
-    → IsFollowing setup (with_channel channel lane) → IsFollowing setup (steps_known setup step channel (with_channel channel lane))
+    → LaneHolds setup (with_channel channel lane) → LaneHolds setup (steps_known setup step channel (with_channel channel lane))
 step_follows setup step lane None kept holds = holds
 step_follows setup step lane (Some channel) kept holds = kept lane.past channel lane.joins lane.begun lane.link holds
 
@@ -58,28 +58,28 @@ from_serial setup past serial joins begun link holds = record {
 }
 
 starts_follow : (setup : Setup) (serial : ChannelSerial) (connected : Bool) (now : ℕ) (lane : Lane) (channel : Option ClientChannel)
-    → IsFollowing setup (with_channel channel lane) → IsFollowing setup (starts_at setup serial (kinds.Moves event.AttachAsked connected now) channel (with_channel channel lane))
+    → LaneHolds setup (with_channel channel lane) → LaneHolds setup (starts_at setup serial (kinds.Moves event.AttachAsked connected now) channel (with_channel channel lane))
 starts_follow setup serial connected now lane None holds =
     attaches setup lane.past connected now (channel_from serial) lane.joins lane.begun lane.link (from_serial setup lane.past serial lane.joins lane.begun lane.link holds)
 starts_follow setup serial connected now lane (Some channel) holds = holds
 
-recovers_follow : (setup : Setup) (serial : ChannelSerial) (lane : Lane) (channel : Option ClientChannel) → IsFollowing setup (with_channel channel lane) → IsFollowing setup (recovers serial channel (with_channel channel lane))
+recovers_follow : (setup : Setup) (serial : ChannelSerial) (lane : Lane) (channel : Option ClientChannel) → LaneHolds setup (with_channel channel lane) → LaneHolds setup (recovers serial channel (with_channel channel lane))
 recovers_follow setup serial lane None holds = from_serial setup lane.past serial lane.joins lane.begun lane.link holds
 recovers_follow setup serial lane (Some channel) holds = holds
 
-keeps_follow : (setup : Setup) (own : List (List ℕ × List ℕ)) (lane : Lane) (channel : Option ClientChannel) → IsFollowing setup (with_channel channel lane) → IsFollowing setup (with_channel (option_map (with_own_members own) channel) lane)
+keeps_follow : (setup : Setup) (own : List (List ℕ × List ℕ)) (lane : Lane) (channel : Option ClientChannel) → LaneHolds setup (with_channel channel lane) → LaneHolds setup (with_channel (option_map (with_own_members own) channel) lane)
 keeps_follow setup own lane None holds = holds
 keeps_follow setup own lane (Some channel) holds = holds
 
 -- THE LINK
 
-unlinks_follow : (setup : Setup) (lane : Lane) (channel : Option ClientChannel) → IsFollowing setup (with_channel channel lane)
-    → IsFollowing setup (with_link None (steps_known setup kinds.LinkLost channel (with_channel channel lane)))
+unlinks_follow : (setup : Setup) (lane : Lane) (channel : Option ClientChannel) → LaneHolds setup (with_channel channel lane)
+    → LaneHolds setup (with_link None (steps_known setup kinds.LinkLost channel (with_channel channel lane)))
 unlinks_follow setup lane None holds = without_link setup lane.past 0 (part_of new_channel) lane.joins lane.begun lane.link holds
 unlinks_follow setup lane (Some channel) holds = unlinks setup lane.past channel lane.joins lane.begun lane.link holds
 
-opens_follow : (setup : Setup) (lane : Lane) (channel : Option ClientChannel) → IsFollowing setup (with_channel channel lane)
-    → IsFollowing setup (with_link (Some new_link) (steps_known setup kinds.LinkOpened channel (with_channel channel lane)))
+opens_follow : (setup : Setup) (lane : Lane) (channel : Option ClientChannel) → LaneHolds setup (with_channel channel lane)
+    → LaneHolds setup (with_link (Some new_link) (steps_known setup kinds.LinkOpened channel (with_channel channel lane)))
 opens_follow setup lane None holds = opens setup lane.past new_channel lane.joins lane.begun lane.link holds
 opens_follow setup lane (Some channel) holds = opens setup lane.past channel lane.joins lane.begun lane.link holds
 
@@ -115,47 +115,47 @@ known_gets setup past connected now channel joins begun (Shows page) more asked 
     (page_gets setup past (part_of channel) joins begun page more asked session (attached_or_not channel.state) holds))
 
 first_follows : (setup : Setup) (connected : Bool) (now : ℕ) (lane : Lane) (channel : Option ClientChannel) (coming : List Coming) (asked : List Ask) (session : Option Session)
-    → IsFollowing setup (with_channel channel (with_link (Some (link_of coming asked session)) lane))
-    → IsFollowing setup (gets_first setup connected now coming (link_of coming asked session) (with_channel channel (with_link (Some (link_of coming asked session)) lane)))
+    → LaneHolds setup (with_channel channel (with_link (Some (link_of coming asked session)) lane))
+    → LaneHolds setup (gets_first setup connected now coming (link_of coming asked session) (with_channel channel (with_link (Some (link_of coming asked session)) lane)))
 first_follows setup connected now lane channel [] asked session holds = holds
 first_follows setup connected now lane None (one ∷ more) asked session holds = unknown_gets setup lane.past lane.joins lane.begun one more asked session holds
 first_follows setup connected now lane (Some channel) (one ∷ more) asked session holds = known_gets setup lane.past connected now channel lane.joins lane.begun one more asked session holds
 
-gets_follow : (setup : Setup) (connected : Bool) (now : ℕ) (lane : Lane) (link : Option Link) → IsFollowing setup (with_link link lane) → IsFollowing setup (gets setup connected now link (with_link link lane))
+gets_follow : (setup : Setup) (connected : Bool) (now : ℕ) (lane : Lane) (link : Option Link) → LaneHolds setup (with_link link lane) → LaneHolds setup (gets setup connected now link (with_link link lane))
 gets_follow setup connected now lane None holds = holds
 gets_follow setup connected now lane (Some link) holds = first_follows setup connected now lane lane.channel link.coming link.asks link.session holds
 
 -- WHAT THE ACTOR DOES
 
-joins_follow : (setup : Setup) (number sequence : ℕ) (lane : Lane) (link : Link) (asked : List Ask) → link.asks ≡ asked → IsFollowing setup (with_link (Some link) lane)
-    → IsFollowing setup (joins_first setup number sequence asked link (with_link (Some link) lane))
+joins_follow : (setup : Setup) (number sequence : ℕ) (lane : Lane) (link : Link) (asked : List Ask) → link.asks ≡ asked → LaneHolds setup (with_link (Some link) lane)
+    → LaneHolds setup (joins_first setup number sequence asked link (with_link (Some link) lane))
 joins_follow setup number sequence lane link [] is holds = holds
 joins_follow setup number sequence lane link (ToDetach ∷ more) is holds = holds
 joins_follow setup number sequence lane link (ToAttach given ∷ more) is holds =
     joins_one setup lane.past given number sequence (part_of (channel_or_new lane.channel)) lane.joins lane.begun more link is holds
 
-refuses_follow : (setup : Setup) (code : ℕ) (lane : Lane) (link : Link) (asked : List Ask) → link.asks ≡ asked → IsFollowing setup (with_link (Some link) lane)
-    → IsFollowing setup (refuses_first code asked link (with_link (Some link) lane))
+refuses_follow : (setup : Setup) (code : ℕ) (lane : Lane) (link : Link) (asked : List Ask) → link.asks ≡ asked → LaneHolds setup (with_link (Some link) lane)
+    → LaneHolds setup (refuses_first code asked link (with_link (Some link) lane))
 refuses_follow setup code lane link [] is holds = holds
 refuses_follow setup code lane link (ToDetach ∷ more) is holds = holds
 refuses_follow setup code lane link (ToAttach given ∷ more) is holds =
     answers_short setup lane.past (part_of (channel_or_new lane.channel)) lane.joins lane.begun (Fails given code) (ToAttach given) more link refl is holds
 
-parts_follow : (setup : Setup) (lane : Lane) (link : Link) (asked : List Ask) → link.asks ≡ asked → IsFollowing setup (with_link (Some link) lane)
-    → IsFollowing setup (parts_first asked link (with_link (Some link) lane))
+parts_follow : (setup : Setup) (lane : Lane) (link : Link) (asked : List Ask) → link.asks ≡ asked → LaneHolds setup (with_link (Some link) lane)
+    → LaneHolds setup (parts_first asked link (with_link (Some link) lane))
 parts_follow setup lane link [] is holds = holds
 parts_follow setup lane link (ToAttach given ∷ more) is holds = holds
 parts_follow setup lane link (ToDetach ∷ more) is holds =
     answers_short setup lane.past (part_of (channel_or_new lane.channel)) lane.joins lane.begun Leaves ToDetach more link refl is holds
 
-act_follows : (setup : Setup) (act : Link → Lane → Lane) (lane : Lane) → ((link : Link) → IsFollowing setup (with_link (Some link) lane) → IsFollowing setup (act link (with_link (Some link) lane)))
-    → (link : Option Link) → IsFollowing setup (with_link link lane) → IsFollowing setup (on_link act link (with_link link lane))
+act_follows : (setup : Setup) (act : Link → Lane → Lane) (lane : Lane) → ((link : Link) → LaneHolds setup (with_link (Some link) lane) → LaneHolds setup (act link (with_link (Some link) lane)))
+    → (link : Option Link) → LaneHolds setup (with_link link lane) → LaneHolds setup (on_link act link (with_link link lane))
 act_follows setup act lane kept None holds = holds
 act_follows setup act lane kept (Some link) holds = kept link holds
 
 -- ALL MOVES
 
-pub move_follows : (setup : Setup) (move : Move) (lane : Lane) → IsFollowing setup lane → IsFollowing setup (lane_after setup move lane)
+pub move_follows : (setup : Setup) (move : Move) (lane : Lane) → LaneHolds setup lane → LaneHolds setup (lane_after setup move lane)
 move_follows setup (moves.Happens one) lane holds = grows setup one lane.past (part_of (channel_or_new lane.channel)) lane.joins lane.begun lane.link holds
 move_follows setup (moves.Attaches connected now) lane holds = attaches setup lane.past connected now (channel_or_new lane.channel) lane.joins lane.begun lane.link holds
 move_follows setup (moves.StartsAt serial connected now) lane holds = starts_follow setup serial connected now lane lane.channel holds
@@ -187,7 +187,7 @@ move_follows setup (moves.Reads most) lane holds =
 move_follows setup moves.TurnsPage lane holds =
     act_follows setup (λ (link : Link). turns setup link.session link) lane (λ (link : Link) h. pages_follow setup link.session link lane refl h) lane.link holds
 
-new_follows : (setup : Setup) → IsFollowing setup new_lane
+new_follows : (setup : Setup) → LaneHolds setup new_lane
 new_follows setup = record {
   sound = record { each = tt; begin = tt; fall = tt; own = tt; later = tt; in_order = tt };
   ends = inl refl;
@@ -197,9 +197,9 @@ new_follows setup = record {
   linked = tt;
 }
 
-pub all_follow : (setup : Setup) (all : List Move) → IsFollowing setup (lane_of setup all)
-all_follow setup [] = new_follows setup
-all_follow setup (move ∷ before) = move_follows setup move (lane_of setup before) (all_follow setup before)
+pub lanes_hold : LanesHold
+lanes_hold setup [] = new_follows setup
+lanes_hold setup (move ∷ before) = move_follows setup move (lane_of setup before) (lanes_hold setup before)
 
 pub records_are_sound : (setup : Setup) (all : List Move) → AreSound setup (lane_of setup all)
-records_are_sound setup all = (all_follow setup all).sound
+records_are_sound setup all = (lanes_hold setup all).sound

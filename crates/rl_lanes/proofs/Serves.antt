@@ -22,7 +22,7 @@ use Rattle.rl_actormodel.specs.Replies.{Joining, reading}
 use Rattle.rl_actormodel.specs.Pagings.{ended_here, paged}
 use Rattle.rl_lanes.specs.Lanes.{Setup, Ask, ToAttach, ToDetach, Page, EndOfMembers, EndOfObjects, Coming, Tells, Leaves, Fails, Gives, Shows, Link, Lane}
 use Rattle.rl_lanes.specs.Moves.{ends_here, page_in, reads_by, reads, turns_to, turns_page, turns}
-use Rattle.rl_lanes.specs.Follows.{Took, TookEntry, TookPage, place_in, live, awaited, IsLive, Fits, answered_in, outstanding, OfLast, Part, end_of, IsAskOf, AllBelow, IsTold, IsTrue, Matches, Flows, IsLinked, HoldsOnLink, Holds, IsFollowing}
+use Rattle.rl_lanes.specs.Follows.{Took, TookEntry, TookPage, place_in, live, awaited, IsLive, Fits, answered_in, outstanding, OfLast, Part, end_of, IsAskOf, AllBelow, IsTold, IsTrue, Matches, Flows, IsLinked, HoldsOnLink, Holds, LaneHolds}
 use Rattle.rl_lanes.proofs.Logs.{append_none, each_append, AreAt, read_at, head_grows, joined_low}
 use Rattle.rl_lanes.proofs.Flight.{left_over, left_is, answered_append, live_on, awaited_on, live_fits_on, fits_on, ahead, behind}
 use Rattle.rl_lanes.proofs.Records.{runs_grow, below_more, end_within}
@@ -292,7 +292,7 @@ page_shows replies.Ticked pages = tt
 page_shows (replies.Census least at members objects) pages = tt
 
 pub turns_follow : (setup : Setup) (one : ChannelEvent) (told : ChannelReply) (session : Session) (link : Link) (lane : Lane) → link.session ≡ Some session
-    → IsFollowing setup (record lane { link = Some link }) → IsFollowing setup (turns_to one told session link lane)
+    → LaneHolds setup (record lane { link = Some link }) → LaneHolds setup (turns_to one told session link lane)
 turns_follow setup one told session link lane has holds =
     puts_out setup one lane.past _ lane.joins lane.begun link (page_in told session.pages) session (paged (page_absorbed told session.pages) session) has
     (shows_plain (page_in told session.pages) shown)
@@ -358,7 +358,7 @@ entries_sent setup whole session entries at sent matches =
     (live_fits_on setup.epoch sent mine (ends_here after) first_live ends.0, ended_matches setup (live sent (mine ++ ends_here after)) after (matches.0, upto))
 
 read_follows : (setup : Setup) (most : ℕ) (session : Session) (link : Link) (lane : Lane) → link.session ≡ Some session
-    → IsFollowing setup (record lane { link = Some link }) → IsFollowing setup (reads setup most (Some session) link (record lane { link = Some link }))
+    → LaneHolds setup (record lane { link = Some link }) → LaneHolds setup (reads setup most (Some session) link (record lane { link = Some link }))
 read_follows setup most session link lane has holds = by_test (nat_lt (session.position + 1) (first setup.site lane.past) || nat_lt (head setup.site lane.past) session.position) where
   entries : List Entry
   entries = take most (drop session.position (log setup.site lane.past))
@@ -366,7 +366,7 @@ read_follows setup most session link lane has holds = by_test (nat_lt (session.p
   at : AreAt (log setup.site lane.past) session.position entries
   at = read_at setup.site lane.past session.position most
 
-  by_test : (behind : Bool) → IsFollowing setup (reads_by (Read session.position most) (reading (Chan (replies.Read (cond behind (NotRetained (first setup.site lane.past)) (Run entries))))) session link (record lane { link = Some link }))
+  by_test : (behind : Bool) → LaneHolds setup (reads_by (Read session.position most) (reading (Chan (replies.Read (cond behind (NotRetained (first setup.site lane.past)) (Run entries))))) session link (record lane { link = Some link }))
   by_test true = grows setup (Read session.position most) lane.past _ lane.joins lane.begun (Some link) holds
   by_test false =
       puts_out setup (Read session.position most) lane.past _ lane.joins lane.begun link (entries_and_ends session entries) session (ended_here (moved_on (length entries) session)) has
@@ -380,16 +380,16 @@ read_follows setup most session link lane has holds = by_test (nat_lt (session.p
       holds
 
 pub reads_follow : (setup : Setup) (most : ℕ) (session : Option Session) (link : Link) (lane : Lane) → link.session ≡ session
-    → IsFollowing setup (record lane { link = Some link }) → IsFollowing setup (reads setup most session link (record lane { link = Some link }))
+    → LaneHolds setup (record lane { link = Some link }) → LaneHolds setup (reads setup most session link (record lane { link = Some link }))
 reads_follow setup most None link lane has holds = holds
 reads_follow setup most (Some session) link lane has holds = read_follows setup most session link lane has holds
 
 page_follows : (setup : Setup) (one : Option ChannelEvent) (session : Session) (link : Link) (lane : Lane) → link.session ≡ Some session
-    → IsFollowing setup (record lane { link = Some link }) → IsFollowing setup (turns_page setup one session link (record lane { link = Some link }))
+    → LaneHolds setup (record lane { link = Some link }) → LaneHolds setup (turns_page setup one session link (record lane { link = Some link }))
 page_follows setup None session link lane has holds = holds
 page_follows setup (Some one) session link lane has holds = turns_follow setup one (reply setup.epoch setup.site lane.past one) session link (record lane { link = Some link }) has holds
 
 pub pages_follow : (setup : Setup) (session : Option Session) (link : Link) (lane : Lane) → link.session ≡ session
-    → IsFollowing setup (record lane { link = Some link }) → IsFollowing setup (turns setup session link (record lane { link = Some link }))
+    → LaneHolds setup (record lane { link = Some link }) → LaneHolds setup (turns setup session link (record lane { link = Some link }))
 pages_follow setup None link lane has holds = holds
 pages_follow setup (Some session) link lane has holds = page_follows setup (next_event session.pages) session link lane has holds

@@ -18,6 +18,7 @@ lanes_are_worked = record {
   misses = refl;
   tells_missed = refl;
   starts = refl;
+  begins_there = refl;
   tells_flags = refl;
   pages = refl;
   member_pages = refl;

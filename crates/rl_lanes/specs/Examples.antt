@@ -96,6 +96,10 @@ missed = attached ++ put 0 ∷ Reads 16 ∷ gets ∷ Unlinks ∷ put 1 ∷ Happe
 abbrev pub started : List Move
 started = put 0 ∷ put 1 ∷ Opens ∷ StartsAt (serial 1) true 0 ∷ Joins 0 1 ∷ gets ∷ Reads 16 ∷ gets ∷ []
 
+-- a client gives a place of another epoch: nothing of it is retained, and the session begins where it was told
+abbrev pub elsewhere : List Move
+elsewhere = put 0 ∷ put 1 ∷ Opens ∷ StartsAt (record { epoch = 2; place = 0 }) true 0 ∷ Joins 0 1 ∷ gets ∷ Reads 16 ∷ gets ∷ []
+
 -- pages of members and of objects come before the entry, and the end pages behind it
 abbrev pub paged : List Move
 paged = put 0 ∷ Recovers (serial 0) ∷ Opens ∷ ComesUp 0 ∷ Attaches true 0 ∷ Joins 0 7 ∷ gets ∷ TurnsPage ∷ TurnsPage ∷ TurnsPage ∷ Reads 16 ∷ []
@@ -132,6 +136,9 @@ pub record LanesAreWorked : Type 0 where
   pub tells_missed : coming_on (after missed).link ≡ frames.Attached (codes "room") (serial 2) 0 (Some NOT_RETAINED) ∷ []
   -- the first segment is Recovered
   pub starts : shown (after started) ≡ record { state = chan.Attached; record_shown = record { start = 1; cause = Recovered (Ours (serial 1)); places = 2 ∷ [] } ∷ []; begun = 2 ∷ []; joins = 2 ∷ [] }
+  -- it begins at the head, and no entry before it comes
+  pub begins_there : shown (after elsewhere)
+      ≡ record { state = chan.Attached; record_shown = record { start = 2; cause = NotRetained (Ours (record { epoch = 2; place = 0 })); places = [] } ∷ []; begun = 2 ∷ []; joins = 2 ∷ [] }
   -- HAS_PRESENCE, RESUMED and HAS_OBJECTS
   pub tells_flags : coming_on (after (put 0 ∷ Opens ∷ StartsAt (serial 0) true 0 ∷ Joins 0 7 ∷ [])).link ≡ frames.Attached (codes "room") (serial 0) 133 None ∷ []
   -- the last page event is none

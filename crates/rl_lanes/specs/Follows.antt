@@ -17,6 +17,7 @@ use Rattle.rl_clientmodel.specs.Commands.{channel_or_new}
 use Rattle.rl_actormodel.specs.declared.parts.Session.{Session}
 use Rattle.rl_actormodel.specs.Replies.{Joining}
 use Rattle.rl_lanes.specs.Lanes.{Setup, Ask, ToAttach, ToDetach, as_given, Page, Coming, Tells, Leaves, Fails, Gives, Shows, Link, Lane}
+use Rattle.rl_lanes.specs.Moves.{Move, lane_of}
 use Rattle.rl_lanes.specs.Sound.{IsAmong, run_end, AreSoundRuns}
 
 -- WHAT A CLIENT TAKES, the latest first
@@ -220,5 +221,9 @@ pub record Holds (setup : Setup) (past : List ChannelEvent) (part : Part) (joins
   pub linked : HoldsOnLink setup past part took joins begun link
 
 -- a channel that is not known is as a new one
-abbrev pub IsFollowing : Setup → Lane → Type 0
-IsFollowing setup lane = Holds setup lane.past (part_of (channel_or_new lane.channel)) lane.joins lane.begun lane.link
+abbrev pub LaneHolds : Setup → Lane → Type 0
+LaneHolds setup lane = Holds setup lane.past (part_of (channel_or_new lane.channel)) lane.joins lane.begun lane.link
+
+-- whatever moves it
+abbrev pub LanesHold : Type 0
+LanesHold = (setup : Setup) (moves : List Move) → LaneHolds setup (lane_of setup moves)

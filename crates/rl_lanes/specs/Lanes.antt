@@ -79,8 +79,8 @@ new_link = record { coming = []; asks = []; session = None }
 pub record Lane : Type 0 where
   pub past : List ChannelEvent  -- what the channel took, the latest first
   pub channel : Option ClientChannel  -- as the client has it, where it knows it
-  pub link : Option Link  -- the client's latest transport, where it is not cut
-  pub joins : List ℕ  -- the numbers of the Joins that were made for this client, the latest first
+  pub link : Option Link  -- the client's latest transport, where there is one that is not cut
+  pub joins : List ℕ  -- the numbers of the Joins that were made on its links while they stood, the latest first
   pub begun : List ℕ  -- for each run of the record the number of the Join whose answer began it, the latest first
 
 -- before anything happened

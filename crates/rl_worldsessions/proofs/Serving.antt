@@ -41,6 +41,7 @@ use Rattle.rl_actormodel.specs.Reads as reads
 use Rattle.rl_actormodel.specs.Reads.{absorbed, answered_at, replied, read_by, on_session}
 use Rattle.rl_actormodel.specs.Rests.{rested, does_rest}
 use Rattle.rl_actormodel.proofs.Named.{found_passes}
+use Rattle.rl_worldmodel.specs.Actions.{Action, does}
 use Rattle.rl_worldmodel.specs.World.{World, Transport, the_epoch, the_site, with_one_got, new_transport, on_transport, changed_at, names, history}
 use Rattle.rl_worldmodel.specs.Calls.{with_name, reply_to, called, with_event}
 use Rattle.rl_worldmodel.specs.Clients.{cut_off, put_unless, takes_frames, gives_frame}
@@ -378,6 +379,10 @@ quiet = record {
 
 -- EVERY RUN
 
+-- each action keeps it
+pub keeps_serving : (action : Action) (world : World) → AreServing world → AreServing (does action world)
+keeps_serving = each_keeps AreServing quiet served
+
 -- each actor of every run serves so
 pub actors_serve : ActorsServe
-actors_serve = runs_hold AreServing (each_keeps AreServing quiet served) tt
+actors_serve = runs_hold AreServing keeps_serving tt
